@@ -1,0 +1,5 @@
+pub mod Flow
+pub mod Fields
+pub mod Faults
+pub mod Shapes
+pub mod View
