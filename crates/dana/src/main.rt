@@ -1,17 +1,13 @@
-// Reads a tree table from standard input and tells what its header and function records say.
+// Reads a tree table from standard input and tells whether it passes, or the first rule broken.
+use check::check_table;
 use std::io;
 use std::io::Read;
-use table::read_layout;
 
 fn main(rt: LibcRuntime) -> io::Result<()> {
     let mut bytes = Vec::new(rt.alloc());
     rt.stdin().read_to_end(&mut bytes)?;
-    match read_layout(bytes.as_slice()) {
-        Ok(header) => {
-            let functions = header.functions;
-            let nodes = header.nodes;
-            println!(rt, "functions {functions} nodes {nodes}")
-        }
+    match check_table(bytes.as_slice()) {
+        Ok(_) => println!(rt, "passed"),
         Err(fault) => {
             let (number, place) = fault.told();
             println!(rt, "refused {number} {place}")

@@ -13,3 +13,8 @@ onward (Err e) f = Err e
 abbrev pub mapped : {A B : Type 0} → (A → B) → Option A → Option B
 mapped f None = None
 mapped f (Some x) = Some (f x)
+
+-- what passed, changed
+abbrev pub passing : {A B E : Type 0} → (A → B) → Result A E → Result B E
+passing f (Ok x) = Ok (f x)
+passing f (Err e) = Err e

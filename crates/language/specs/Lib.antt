@@ -1,0 +1,4 @@
+pub mod Tree
+pub mod Listing
+pub mod Measures
+pub mod Rules

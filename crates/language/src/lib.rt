@@ -1,0 +1,1 @@
+// Dana: its programs as trees, and the rules that they keep.
