@@ -1,0 +1,186 @@
+// The walk over statements and blocks.
+ghost use mathlib.Core.Path.{_≡_};
+ghost use Prim.Native.Nat.{_+_, _<_, _≤_};
+ghost use Rattle.std.specs.Vec.{made};
+ghost use Rattle.table.specs.View.{view};
+ghost use Rattle.walk.specs.Bodies.{envOf};
+ghost use Rattle.walk.specs.Names.{names};
+ghost use Rattle.walk.specs.Walk.{stmtFrom, blockFrom, leaves, exits, topped, judged, beside, sameKind};
+use crate::arrive::arrive_act;
+use crate::arrive::arrive_block;
+use crate::arrive::format_kind;
+use crate::arrive::same_kind;
+use crate::conditions::cond;
+use crate::fault::CheckFault;
+use crate::found::Context;
+use crate::found::Found;
+use crate::found::Size;
+use crate::loops::Loops;
+use crate::opens::LoopGuard;
+use crate::opens::push_loop;
+use crate::refer::function_called;
+use crate::values::arguments;
+use crate::values::expr;
+use table::Kind;
+use table::Statement;
+use table::Table;
+
+// A break or continue names an open loop.
+fn leave_loop(loops: &Loops, name: u16, at: usize) -> Result<(Size, usize), CheckFault>
+    requires { ⌜ at < 8192 ⌝ }
+    ensures { λ r. ⌜ r ≡ leaves (names (now (loops .entry))) name at ⌝ }
+{
+    if loops.is_open(name) {
+        let size = Size {
+            height: 0,
+            words: 1,
+        };
+        Ok((size, at + 1))
+    } else {
+        Err(CheckFault::Loop(at))
+    }
+}
+
+// An exit stands in a function without result.
+fn exit_from(result: Option<Kind>, at: usize) -> Result<(Size, usize), CheckFault>
+    requires { ⌜ at < 8192 ⌝ }
+    ensures { λ r. ⌜ r ≡ exits result at ⌝ }
+{
+    match result {
+        None => {
+            let size = Size {
+                height: 0,
+                words: 1,
+            };
+            Ok((size, at + 1))
+        }
+        Some(_) => Err(CheckFault::Exit(at)),
+    }
+}
+
+// A node with one expression below it, of the kind that it asks for.
+fn one_value(kind: Kind, value: Found, next: usize, at: usize) -> Result<(Size, usize), CheckFault>
+    requires { ⌜ value .words < 65535 ⌝ }
+    ensures { λ r. ⌜ r ≡ judged at (sameKind kind (value .kind)) (topped value, next) ⌝ }
+{
+    if !same_kind(kind, value.kind) {
+        return Err(CheckFault::Child(at));
+    }
+    let height = value.height;
+    let words = value.words + 1;
+    Ok((Size { height, words }, next))
+}
+
+fn side_by_side(a: Size, b: Size) -> Size
+    requires { ⌜ a .words + b .words < 65536 ⌝ }
+    ensures { λ r. ⌜ r ≡ beside a b ⌝ }
+{
+    Size {
+        height: a.height.max(b.height),
+        words: a.words + b.words,
+    }
+}
+
+// A statement among the open loops: its height and words, and the next node's place.
+fn stmt(
+    t: &Table,
+    cx: &Context,
+    at: usize,
+    left: u8,
+    loops: &mut Loops,
+) -> Result<(Size, usize), CheckFault>
+    ensures is { λ r. ⌜ r ≡ stmtFrom (view (now (t .entry))) (envOf (view (now (t .entry))) (now (cx .entry))) left (names (now (loops .entry))) at ⌝ }
+    ensures kept { λ _. ⌜ names (now (loops .exit)) ≡ names (now (loops .entry)) ⌝ }
+    ensures bound { λ r. ⌜ made r (λ p. (at < p .1) × (p .0 .height + at ≤ p .1) × (p .0 .words + at ≤ p .1) × (p .1 ≤ now (t .entry) .nodes)) ⌝ }
+{
+    match arrive_act(t, at, left)? {
+        Statement::Skip => {
+            let size = Size {
+                height: 0,
+                words: 0,
+            };
+            Ok((size, at + 1))
+        }
+        Statement::Assign(scope, slot) => {
+            let kind = cx.variable_kind(scope, slot, at)?;
+            let (value, next) = expr(t, cx, at + 1, left - 1)?;
+            one_value(kind, value, next, at)
+        }
+        Statement::Perform(f) => {
+            let callee = function_called(t, f, at)?;
+            if callee.result.is_some() {
+                return Err(CheckFault::Function(at));
+            }
+            let (taken, next) = arguments(t, cx, &callee, at + 1, left - 1)?;
+            if !taken.fit {
+                return Err(CheckFault::Child(at));
+            }
+            let height = taken.size.height;
+            let words = taken.size.words + 1;
+            Ok((Size { height, words }, next))
+        }
+        Statement::If => {
+            let (c, middle) = cond(t, cx, at + 1, left - 1)?;
+            let (b, next) = block(t, cx, middle, left - 1, loops)?;
+            Ok((side_by_side(c, b), next))
+        }
+        Statement::IfElse => {
+            let (c, middle) = cond(t, cx, at + 1, left - 1)?;
+            let (b, behind) = block(t, cx, middle, left - 1, loops)?;
+            let (d, next) = block(t, cx, behind, left - 1, loops)?;
+            let height = c.height.max(b.height.max(d.height));
+            let words = c.words + b.words + d.words + 1;
+            Ok((Size { height, words }, next))
+        }
+        Statement::Loop(name) => {
+            if loops.open_count() >= 16 {
+                return Err(CheckFault::Loop(at));
+            }
+            push_loop(loops, name);
+            let guard = LoopGuard { held: loops };
+            let (b, next) = block(t, cx, at + 1, left - 1, guard.held)?;
+            let height = b.height;
+            let words = b.words + 1;
+            Ok((Size { height, words }, next))
+        }
+        Statement::Break(name) => leave_loop(loops, name, at),
+        Statement::Continue(name) => leave_loop(loops, name, at),
+        Statement::Exit => exit_from(cx.own.result, at),
+        Statement::Return => {
+            let kind = cx.own.result.ok_or(CheckFault::Exit(at))?;
+            let (value, next) = expr(t, cx, at + 1, left - 1)?;
+            one_value(kind, value, next, at)
+        }
+        Statement::Write(format) => {
+            let kind = format_kind(format);
+            let (value, next) = expr(t, cx, at + 1, left - 1)?;
+            one_value(kind, value, next, at)
+        }
+    }
+}
+
+// A block among the open loops: its height and words, and the next node's place.
+pub(crate) fn block(
+    t: &Table,
+    cx: &Context,
+    at: usize,
+    left: u8,
+    loops: &mut Loops,
+) -> Result<(Size, usize), CheckFault>
+    ensures is { λ r. ⌜ r ≡ blockFrom (view (now (t .entry))) (envOf (view (now (t .entry))) (now (cx .entry))) left (names (now (loops .entry))) at ⌝ }
+    ensures kept { λ _. ⌜ names (now (loops .exit)) ≡ names (now (loops .entry)) ⌝ }
+    ensures bound { λ r. ⌜ made r (λ p. (at < p .1) × (p .0 .height + at + 1 ≤ p .1) × (p .0 .words + at + 1 ≤ p .1) × (p .1 ≤ now (t .entry) .nodes)) ⌝ }
+{
+    let count = arrive_block(t, at, left)?;
+    let mut size = Size {
+        height: 0,
+        words: 0,
+    };
+    let mut next = at + 1;
+    for _i in 0..count {
+        let (statement, after) = stmt(t, cx, next, left - 1, loops)?;
+        size = side_by_side(size, statement);
+        next = after;
+    }
+    Ok((size, next))
+}
