@@ -8,6 +8,7 @@ use lib.ListN.{length, take}
 use Rattle.std.specs.shelf.Maps.{nth}
 use Rattle.std.specs.declared.option.Option.{Option}
 use Rattle.std.specs.declared.option.Option.the-variants.{Some, None}
+use Rattle.table.specs.Shapes.{ConstantFits}
 use Rattle.table.specs.declared.shape.Kind.{Kind}
 use Rattle.table.specs.declared.shape.Kind.the-variants.{Int, Byte}
 use Rattle.table.specs.declared.shape.Scope.{Scope}
@@ -39,11 +40,6 @@ called functions f = cond (eqb f 0) None (functions f)
 
 abbrev pub parameterKinds : Signature → List Kind
 parameterKinds s = take (s .parameters) (s .variables)
-
--- a constant within its kind
-abbrev pub ConstantFits : Kind → ℕ → Type 0
-ConstantFits Int n = n < 32768
-ConstantFits Byte n = n < 256
 
 -- `&` and the or-sign take bytes
 abbrev pub Operates : Binary → Kind → Type 0

@@ -1,2 +1,3 @@
 pub mod Sorts
 pub mod Slots
+pub mod Round

@@ -1,4 +1,5 @@
 -- What a node record is, and the record of each node.
+use mathlib.Core.Path.{_≡_}
 use mathlib.Core.Bool.{Bool, true, false, cond, _&&_}
 use Prim.Native.Nat.{ℕ, _<_, _≤_}
 use lib.Dec.{eqb, leb, ltb}
@@ -196,31 +197,25 @@ shapeOf n =
     sorted (n .kind) (expressionOf (n .kind) (n .aux) (n .operand)) (conditionOf (n .kind) (n .aux) (n .operand))
     (blockOf (n .aux) (n .operand)) (statementOf (n .kind) (n .aux) (n .operand))
 
--- The ranges of the fields: a constant within its kind, a block of 1 to 8,192 statements, other operands of 16 bits.
+-- The ranges of the fields: a constant within its kind, a block of 1 to 8,192 statements.
+abbrev pub ConstantFits : Kind → ℕ → Type 0
+ConstantFits Int n = n < 32768
+ConstantFits Byte n = n < 256
+
 abbrev pub ExpressionFits : Expression → Type 0
-ExpressionFits (Constant Int n) = n < 32768
-ExpressionFits (Constant Byte n) = n < 256
-ExpressionFits (Variable s x) = x < 65536
+ExpressionFits (Constant k n) = ConstantFits k n
+ExpressionFits (Variable s x) = Unit {0}
 ExpressionFits (OfOne u) = Unit {0}
 ExpressionFits (OfTwo b) = Unit {0}
-ExpressionFits (Call f) = f < 65536
+ExpressionFits (Call f) = Unit {0}
 ExpressionFits (Read q) = Unit {0}
-
-abbrev pub StatementFits : Statement → Type 0
-StatementFits Skip = Unit {0}
-StatementFits (Assign s x) = x < 65536
-StatementFits (Perform f) = f < 65536
-StatementFits If = Unit {0}
-StatementFits IfElse = Unit {0}
-StatementFits (Loop m) = m < 65536
-StatementFits (Break m) = m < 65536
-StatementFits (Continue m) = m < 65536
-StatementFits Exit = Unit {0}
-StatementFits Return = Unit {0}
-StatementFits (Write q) = Unit {0}
 
 abbrev pub ShapeFits : Shape → Type 0
 ShapeFits (Value e) = ExpressionFits e
 ShapeFits (Test c) = Unit {0}
-ShapeFits (Act s) = StatementFits s
+ShapeFits (Act s) = Unit {0}
 ShapeFits (Block n) = (0 < n) × (n ≤ 8192)
+
+-- a record is a node exactly if it is that node's record and its fields are in range
+abbrev pub Decodes : Node → Option Shape → Type 0
+Decodes n r = (s : Shape) → (r ≡ Some s → (n ≡ nodeOf s) × ShapeFits s) × ((n ≡ nodeOf s) × ShapeFits s → r ≡ Some s)

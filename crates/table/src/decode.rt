@@ -1,6 +1,6 @@
 // What a node record is.
 ghost use mathlib.Core.Path.{_≡_};
-ghost use Rattle.table.specs.Shapes.{scopeOf, formatOf, constantOf, operatorOf, expressionOf, testOf, conditionOf, ifOf, bareOf, actOf, statementOf, blockOf, shapeOf};
+ghost use Rattle.table.specs.Shapes.{scopeOf, formatOf, constantOf, operatorOf, expressionOf, testOf, conditionOf, ifOf, bareOf, actOf, statementOf, blockOf, shapeOf, Decodes};
 use crate::record::Node;
 use crate::shape::Binary;
 use crate::shape::Comparison;
@@ -167,7 +167,8 @@ fn block_of(aux: u8, operand: u16) -> Option<u16>
 impl Node {
     // What the record is, or none if its kind is not listed, a field is out of range or an unused field is not 0.
     pub fn shape(&self) -> Option<Shape>
-        ensures { λ r. ⌜ r ≡ shapeOf (now (self .entry)) ⌝ }
+        ensures is { λ r. ⌜ r ≡ shapeOf (now (self .entry)) ⌝ }
+        ensures exactly { λ r. ⌜ Decodes (now (self .entry)) r ⌝ }
     {
         match self.kind {
             0..20 => Some(Shape::Expression(expression_of(self.kind, self.aux, self.operand)?)),
