@@ -1,12 +1,14 @@
 -- The kind of an expression, and the levels, the height and the words of a tree.
+use mathlib.Core.List.{[], _∷_}
 use Prim.Native.Nat.{ℕ, suc, max, _+_}
+use lib.ListN.{length}
 use Rattle.table.specs.declared.shape.Kind.{Kind}
 use Rattle.table.specs.declared.shape.Kind.the-variants.{Int, Byte}
 use Rattle.table.specs.declared.shape.Format.{Format}
 use Rattle.table.specs.declared.shape.Format.the-variants.{Integer, Byte as ByteText, Char}
 use Rattle.table.specs.declared.shape.Unary.{Unary}
 use Rattle.table.specs.declared.shape.Unary.the-variants.{Plus, Minus, ByteNot, Extend, Shrink}
-use Rattle.language.specs.Tree.{Expr, Args, Cond, Stmt, Block, Stmts, constant, variable, unary, binary, call, read, none, more, compare, negate, join, holds, skip, assign, perform, if, ifElse, loop, break, continue, exit, return, write, block, done, next}
+use Rattle.language.specs.Tree.{Expr, Args, Cond, Stmt, Block, Stmts, Program, constant, variable, unary, binary, call, read, none, more, compare, negate, join, holds, skip, assign, perform, if, ifElse, loop, break, continue, exit, return, write, block, done, next}
 
 -- what a read of each format gives, and a write of it takes
 abbrev pub formatKind : Format → Kind
@@ -167,3 +169,11 @@ abbrev mutual
   pub wordsSs : Stmts → ℕ
   wordsSs done = 0
   wordsSs (next s ss) = wordsS s + wordsSs ss
+
+-- a whole program: an entry word for each function, and behind each body a closing word
+abbrev pub wordsBodies : Program → ℕ
+wordsBodies [] = 0
+wordsBodies (f ∷ fs) = wordsB (f .body) + 1 + wordsBodies fs
+
+abbrev pub wordsP : Program → ℕ
+wordsP P = length P + wordsBodies P

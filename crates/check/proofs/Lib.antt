@@ -1,0 +1,10 @@
+pub mod Spelling
+pub mod Values
+pub mod Tests
+pub mod Acts
+pub mod Whole
+pub mod Readback
+pub mod Functions
+pub mod Fits
+pub mod Programs
+pub mod Exactly

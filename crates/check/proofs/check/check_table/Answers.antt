@@ -1,0 +1,9 @@
+use Rattle.check.proofs.Exactly.{exactly}
+use Rattle.check.proofs.check.check_table.Needs as need
+
+pub returns : need.returns
+returns c =
+    record {
+      walked = c .walk-table .ensures;
+      exact = exactly (c .args .bytes .now) (c .walk-table .result) (c .read-through .ensures) (c .walk-table .ensures);
+    }

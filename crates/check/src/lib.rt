@@ -1,0 +1,4 @@
+// The check: whether a tree table keeps the layout, the limits and the rules of Dana, and else the first rule broken.
+mod check;
+
+pub use check::check_table;

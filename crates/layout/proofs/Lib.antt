@@ -1,0 +1,9 @@
+pub mod Pieces
+pub mod KindBits
+pub mod Headers
+pub mod Nodes
+pub mod Places
+pub mod Records
+pub mod Recorded
+pub mod Read
+pub mod Written
