@@ -1,24 +1,21 @@
 -- A table passes exactly if it is the table of a program that keeps the rules, which is then the only one.
 use mathlib.Core.Path.{_≡_, refl, sym, ap, subst, _∙_}
-use mathlib.Core.Bool.{Bool, true, false, cond, _&&_}
+use mathlib.Core.Bool.{Bool, true, false, cond}
 use mathlib.Core.List.{List}
 use Prim.Native.Nat.{ℕ, _+_, _*_, _<_, _≤_}
 use native.Mathlib.Omega.{arith}
-use lib.Dec.{eqb, leb, ltb}
+use lib.Dec.{ltb}
 use lib.ListN.{length, getD}
 use Rattle.std.proofs.shelf.Ways.{tells}
 use Rattle.std.proofs.shelf.Tests.{le-ltb}
-use Rattle.std.specs.shelf.Maps.{nth}
-use Rattle.std.specs.declared.option.Option.{Option}
-use Rattle.std.specs.declared.option.Option.the-variants.{Some, None}
+use Rattle.std.specs.Vec.{made}
 use Rattle.std.specs.declared.result.Result.{Result}
 use Rattle.std.specs.declared.result.Result.the-variants.{Ok, Err}
 use Rattle.table.specs.Flow.{onward}
-use Rattle.table.specs.Fields.{headerOf, layoutOf, judged, firstBroken, countsHold, functionCount, nodeCount, version, tableLength}
+use Rattle.table.specs.Fields.{layoutOf, countsHold}
 use Rattle.table.specs.View.{View}
 use Rattle.table.specs.declared.record.Header.{Header}
 use Rattle.table.specs.declared.record.TableFault.{TableFault}
-use Rattle.table.specs.declared.record.TableFault.the-variants.{Length, Version, Counts}
 use Rattle.language.specs.Tree.{Program}
 use Rattle.language.specs.Listing.{listP}
 use Rattle.language.specs.Measures.{wordsP, wordsBodies}
@@ -32,36 +29,24 @@ use Rattle.walk.specs.declared.found.Passed.{Passed}
 use Rattle.layout.specs.Stored.{Bytes, Shown, Agrees, countsOf as headerFor}
 use Rattle.layout.proofs.Read.{layouts-read}
 use Rattle.layout.proofs.Written.{layouts-written}
-use Rattle.layout.proofs.Recorded.{layouts-recorded}
+use Rattle.layout.proofs.Recorded.{passed, layouts-recorded}
+use Rattle.layout.proofs.Headers.{header-back}
 use Rattle.check.specs.Exact.{countsOf, Only, Exact}
 use Rattle.check.proofs.Spelling.{onward-ok}
 use Rattle.check.proofs.Acts.{Small}
 use Rattle.check.proofs.Functions.{Bodied, bodied-spells, bodies-sound, bodies-complete, bodies-same}
 use Rattle.check.proofs.Programs.{stored-from, numbered-from, spells-from, spells-end, program-bodied, program-fits, program-limits, signatures-same, functions-fine}
 
--- the counts of a header that passes
-counted : (a b c d : Bool) (l f n : ℕ) (h : Header) →
-    cond a (Err (Length l)) (cond b (cond c (cond d (Ok (record { functions = f; nodes = n })) (Err (Length l))) (Err Counts)) (Err Version)) ≡ Ok h →
-    (c ≡ true) × (h .functions ≡ f) × (h .nodes ≡ n)
-counted a b c d l f n h e = grind arith
-
-header-counts : (bs : List ℕ) (h : Header) → headerOf bs ≡ Ok h → (0 < h .functions) × (h .functions ≤ 32) × (h .nodes ≤ 8192)
-header-counts bs h e =
-    let c = counted (ltb (length bs) 3) (eqb (version bs) 1) (countsHold (functionCount bs) (nodeCount bs)) (eqb (length bs) (tableLength (functionCount bs) (nodeCount bs))) (length bs) (functionCount bs) (nodeCount bs) h e in
-    bounds (functionCount bs) (nodeCount bs) (c .0) (c .1) (c .2)
-  where
-    bounds : (f n : ℕ) → countsHold f n ≡ true → h .functions ≡ f → h .nodes ≡ n → (0 < h .functions) × (h .functions ≤ 32) × (h .nodes ≤ 8192)
-    bounds f n t p q =
-        let x : (0 < f) × (f ≤ 32) × (n ≤ 8192) = grind (arith, tells) in (omega (arith, x .0, p), omega (arith, x .1, p), omega (arith, x .2, q))
-
-judged-ok : (h g : Header) (o : Option ℕ) → judged h o ≡ Ok g → h ≡ g
-judged-ok h g None e = grind arith
-judged-ok h g (Some f) e = absurd (grind arith)
-
-layout-counts : (bs : List ℕ) (h : Header) → layoutOf bs ≡ Ok h → (0 < h .functions) × (h .functions ≤ 32) × (h .nodes ≤ 8192)
+-- the counts and the length of a table whose layout passes
+layout-counts : (bs : List ℕ) (h : Header) → layoutOf bs ≡ Ok h → (0 < h .functions) × (h .functions ≤ 32) × (h .nodes ≤ 8192) × (length bs ≤ 24771)
 layout-counts bs h e =
-    let o = onward-ok (headerOf bs) (λ g. judged g (firstBroken bs (g .functions) 0)) h e in
-    header-counts bs h (o .1 ∙ ap Ok (judged-ok (o .0) h (firstBroken bs (o .0 .functions) 0) (o .2)))
+    let w = header-back bs h (passed bs h e .0) in
+    let c : (0 < h .functions) × (h .functions ≤ 32) × (h .nodes ≤ 8192) = holding (h .functions) (h .nodes) (w .hold) in
+    let l = w .long in
+    (c .0, c .1, c .2, omega arith)
+  where
+    holding : (f n : ℕ) → countsHold f n ≡ true → (0 < f) × (f ≤ 32) × (n ≤ 8192)
+    holding f n t = grind (arith, tells)
 
 fromTable-ok : {A : Type 0} (r : Result A TableFault) (x : A) → fromTable r ≡ Ok x → r ≡ Ok x
 fromTable-ok (Ok y) x e = grind arith
@@ -89,7 +74,7 @@ bodied P k =
     program-bodied v P (s .functions) (k .functions) (spells-from v 0 (listP P) (s .nodes) (k .numbered) (program-fits P (k .functions)))
 
 -- and passes
-complete : (P : Program) → Keeps P → checked (layout P) ≡ Ok (countsOf P)
+pub complete : (P : Program) → Keeps P → checked (layout P) ≡ Ok (countsOf P)
 unfolding checked
 complete P k =
     let s = layouts-read P (program-limits P k) in
@@ -153,3 +138,10 @@ exactly bs (Ok p) bytes e = sound bs p bytes (sym e)
 exactly bs (Err f) bytes e = λ P k l.
     let c : _≡_ {A = Answer Passed} (Err f) (Ok (countsOf P)) = e ∙ ap checked (sym l) ∙ complete P k in
     absurd (grind (arith, c))
+
+pub at-most : (bs : List ℕ) (r : Answer Passed) → r ≡ checked bs → made r (λ _. length bs ≤ 24771)
+unfolding checked
+at-most bs (Err f) e = tt
+at-most bs (Ok p) e =
+    let o = onward-ok (fromTable (layoutOf bs)) (λ h. onward (bodiesFrom (viewOf bs h) (h .functions) 0 (h .functions) 0) (ended h)) p (sym e) in
+    layout-counts bs (o .0) (fromTable-ok (layoutOf bs) (o .0) (o .1)) .3

@@ -8,3 +8,4 @@ pub mod Functions
 pub mod Fits
 pub mod Programs
 pub mod Exactly
+pub mod Passes

@@ -1,2 +1,4 @@
 pub mod Spells
 pub mod Exact
+pub mod Passing
+pub mod Held

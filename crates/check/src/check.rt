@@ -1,6 +1,8 @@
 // The public check of a table.
 ghost use mathlib.Core.Path.{_≡_};
-ghost use Prim.Native.Nat.{_<_};
+ghost use Prim.Native.Nat.{_<_, _≤_};
+ghost use lib.ListN.{length};
+ghost use Rattle.std.specs.Vec.{made};
 ghost use Rattle.layout.specs.Stored.{Bytes};
 ghost use Rattle.walk.specs.Bodies.{checked};
 ghost use Rattle.check.specs.Exact.{Exact};
@@ -27,6 +29,7 @@ fn read_through(bytes: &[u8])
 pub fn check_table(bytes: &[u8]) -> Result<Passed, CheckFault>
     ensures walked { λ r. ⌜ r ≡ checked (now (bytes .entry)) ⌝ }
     ensures exact { λ r. ⌜ Exact (now (bytes .entry)) r ⌝ }
+    ensures long { λ r. ⌜ made r (λ _. length (now (bytes .entry)) ≤ 24771) ⌝ }
 {
     read_through(bytes);
     walk_table(bytes)
