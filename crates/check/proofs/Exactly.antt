@@ -113,11 +113,11 @@ sound bs p bytes e =
     let total = b .total in
     let words : u .0 .0 ≡ wordsP P = omega (arith, total, many) in
     let keeps : Keeps P = record {
-          functions = functions-fine v (λ f l. layouts-recorded bs h passes f l) P (omega (arith, c .0, many)) many (b .bodied);
-          few = omega (arith, c .1, many);
-          short = omega (arith, c .2, long);
-          numbered = numbered-from v 0 (listP P) spells;
-        } in
+      functions = functions-fine v (λ f l. layouts-recorded bs h passes f l) P (omega (arith, c .0, many)) many (b .bodied);
+      few = omega (arith, c .1, many);
+      short = omega (arith, c .2, long);
+      numbered = numbered-from v 0 (listP P) spells;
+    } in
     let lies : layout P ≡ bs = layouts-written bs h P bytes (record { passes = passes; many = many; functions = same; long = long; nodes = stored-from v 0 (listP P) spells }) in
     record {
       program = P;

@@ -104,15 +104,18 @@ module _ (v : View) (small : Small v) where
       record {
         functions = record { signature = signatureOf (x .0); body = s .tree } ∷ r .functions;
         many = ap suc (r .many);
-        bodied = (record {
-          own = x .0;
-          there = x .1;
-          signature = refl;
-          fine = subst (λ (y : Context). FineB (envOf v y) [] (s .tree)) (x .2) (s .fine);
-          nesting = s .deep;
-          cells = omega (arith, k .0, hs, vs);
-          spells = s .spells;
-        }, subst (λ (y : ℕ). Bodied v (f + 1) y (r .functions)) here (r .bodied));
+        bodied = (
+          record {
+            own = x .0;
+            there = x .1;
+            signature = refl;
+            fine = subst (λ (y : Context). FineB (envOf v y) [] (s .tree)) (x .2) (s .fine);
+            nesting = s .deep;
+            cells = omega (arith, k .0, hs, vs);
+            spells = s .spells;
+          },
+          subst (λ (y : ℕ). Bodied v (f + 1) y (r .functions)) here (r .bodied),
+        );
         ends = simp length-append (omega (arith, r .ends, here));
         total = omega (arith, r .total, k .1, ws);
       }

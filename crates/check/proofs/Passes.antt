@@ -41,12 +41,17 @@ idle-keeps : Keeps idle
 unfolding idle
 idle-keeps =
     record {
-      functions = (refl, refl, record {
-        record-fine = record { few = omega arith; among = omega arith; short = omega arith };
-        body-fine = (omega arith, omega arith, (tt, tt));
-        nesting = omega arith;
-        cells = omega arith;
-      }, tt);
+      functions = (
+        refl,
+        refl,
+        record {
+          record-fine = record { few = omega arith; among = omega arith; short = omega arith };
+          body-fine = (omega arith, omega arith, (tt, tt));
+          nesting = omega arith;
+          cells = omega arith;
+        },
+        tt,
+      );
       few = omega arith;
       short = omega arith;
       numbered = (refl, (refl, tt));

@@ -97,19 +97,21 @@ module _ (v : View) (P : Program) (same : (f : ℕ) → signatureIn v f ≡ nth 
   others-bodied m z [] f i l at fine h = tt
   others-bodied m z (g ∷ gs) f i l at fine h =
       let s = spells-left v i (listB (g .body)) (listP gs) h in
-      let here : f + 0 ≡ f = omega arith in
-      (standing f i g (otherEnv P m (g .signature)) (λ own e. env-other f own (g .signature) m l e z) (ap (nth (signatures P)) (sym here) ∙ at 0) (fine .0) (s .0),
-      others-bodied m z gs (f + 1) (i + length (listB (g .body))) (omega arith)
-      (λ x. let q : f + 1 + x ≡ f + suc x = omega arith in ap (nth (signatures P)) q ∙ at (suc x)) (fine .1) (s .1))
+      let here : f + 0 ≡ f = omega arith in (
+        standing f i g (otherEnv P m (g .signature)) (λ own e. env-other f own (g .signature) m l e z) (ap (nth (signatures P)) (sym here) ∙ at 0) (fine .0) (s .0),
+        others-bodied m z gs (f + 1) (i + length (listB (g .body))) (omega arith)
+            (λ x. let q : f + 1 + x ≡ f + suc x = omega arith in ap (nth (signatures P)) q ∙ at (suc x)) (fine .1) (s .1),
+      )
 
 -- a program that keeps the rules stands in a view that shows its functions and nodes
 pub program-bodied : (v : View) (P : Program) → ((f : ℕ) → signatureIn v f ≡ nth (signatures P) f) → FineFunctions P → Spells v 0 (listP P) → Bodied v 0 0 P
 program-bodied v [] same fine h = absurd fine
 program-bodied v (g ∷ gs) same fine h =
-    let s = spells-left v 0 (listB (g .body)) (listP gs) h in
-    (standing v (g ∷ gs) same 0 0 g (mainEnv (g ∷ gs) (g .signature)) (λ own e. env-main v (g ∷ gs) same own (g .signature) e) refl (fine .2) (s .0),
-    others-bodied v (g ∷ gs) same (g .signature) refl gs 1 (0 + length (listB (g .body))) (omega arith)
-    (λ x. let q : 1 + x ≡ suc x = omega arith in ap (nth (signatures (g ∷ gs))) q) (fine .3) (s .1))
+    let s = spells-left v 0 (listB (g .body)) (listP gs) h in (
+      standing v (g ∷ gs) same 0 0 g (mainEnv (g ∷ gs) (g .signature)) (λ own e. env-main v (g ∷ gs) same own (g .signature) e) refl (fine .2) (s .0),
+      others-bodied v (g ∷ gs) same (g .signature) refl gs 1 (0 + length (listB (g .body))) (omega arith)
+          (λ x. let q : 1 + x ≡ suc x = omega arith in ap (nth (signatures (g ∷ gs))) q) (fine .3) (s .1),
+    )
 
 others-fit : (P : Program) (m : Signature) (gs : List Function) → FineOthers P m gs → All Fits (listP gs)
 others-fit P m [] f = tt
@@ -180,9 +182,10 @@ module _ (v : View) (recorded : (f : ℕ) → f < v .functions → Recorded (v .
   others-fine : (P : Program) (same : (f : ℕ) → signatureIn v f ≡ nth (signatures P) f) (m : Signature) → nth (signatures P) 0 ≡ Some m →
       (gs : List Function) (f i : ℕ) → 0 < f → f + length gs ≤ v .functions → Bodied v f i gs → FineOthers P m gs
   others-fine P same m z [] f i p l b = tt
-  others-fine P same m z (g ∷ gs) f i p l b =
-      (function-fine f i g (otherEnv P m (g .signature)) (omega arith) (b .0) (λ own e. env-other v P same f own (g .signature) m p e z),
-      others-fine P same m z gs (f + 1) (i + length (listB (g .body))) (omega arith) (omega arith) (b .1))
+  others-fine P same m z (g ∷ gs) f i p l b = (
+    function-fine f i g (otherEnv P m (g .signature)) (omega arith) (b .0) (λ own e. env-other v P same f own (g .signature) m p e z),
+    others-fine P same m z gs (f + 1) (i + length (listB (g .body))) (omega arith) (omega arith) (b .1),
+  )
 
   pub functions-fine : (P : Program) → 0 < length P → length P ≡ v .functions → Bodied v 0 0 P → FineFunctions P
   functions-fine [] l n b = absurd (omega arith)
@@ -191,7 +194,9 @@ module _ (v : View) (recorded : (f : ℕ) → f < v .functions → Recorded (v .
       let here : 0 < v .functions = omega arith in
       let o = own-record 0 here (b .0 .own) (b .0 .there) in
       let q : signatureOf (recorded 0 here .function) ≡ g .signature = ap signatureOf o ∙ b .0 .signature in
-      let p = recorded 0 here .plain refl in
-      (ap (λ x. x .result) (sym q) ∙ p .0, ap (λ x. x .parameters) (sym q) ∙ p .1,
-      function-fine 0 0 g (mainEnv (g ∷ gs) (g .signature)) here (b .0) (λ own e. env-main v (g ∷ gs) same own (g .signature) e),
-      others-fine (g ∷ gs) same (g .signature) refl gs 1 (0 + length (listB (g .body))) (omega arith) (omega arith) (b .1))
+      let p = recorded 0 here .plain refl in (
+        ap (λ x. x .result) (sym q) ∙ p .0,
+        ap (λ x. x .parameters) (sym q) ∙ p .1,
+        function-fine 0 0 g (mainEnv (g ∷ gs) (g .signature)) here (b .0) (λ own e. env-main v (g ∷ gs) same own (g .signature) e),
+        others-fine (g ∷ gs) same (g .signature) refl gs 1 (0 + length (listB (g .body))) (omega arith) (omega arith) (b .1),
+      )

@@ -12,8 +12,7 @@ use walk::walk_table;
 
 fn below_256(b: u8)
     ensures { λ _. ⌜ b < 256 ⌝ }
-{
-}
+{}
 
 // Each element of a slice of bytes is below 256. What a slice holds is known only where it is read, so this reads
 // it through; the compiler finds that nothing comes of it and leaves no code.

@@ -4,3 +4,9 @@ pub mod Measures
 pub mod Rules
 pub mod Layout
 pub mod Reader
+pub mod State
+pub mod Operators
+pub mod Meaning
+pub mod Laws
+pub mod Ranges
+pub mod Cases

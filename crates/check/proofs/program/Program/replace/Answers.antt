@@ -19,9 +19,10 @@ passing : (a t r : List ℕ) (p : Passed) → a ≡ t → Ok p ≡ checked t →
 passing a t r p e h = ap checked (front a t r e) ∙ sym h
 
 pub ghost-self : need.ghost-self
-ghost-self c =
-    (c .in-Continue-passed .ensures tt .long,
-    (passes-at _ (c .in-Continue-passed .passed) (passing _ _ _ _ (c .copy-from-slice .ensures .after) (c .in-Continue-passed .ensures tt .walked)), tt))
+ghost-self c = (
+  c .in-Continue-passed .ensures tt .long,
+  (passes-at _ (c .in-Continue-passed .passed) (passing _ _ _ _ (c .copy-from-slice .ensures .after) (c .in-Continue-passed .ensures tt .walked)), tt),
+)
 
 pub returns : need.returns
 returns c = record { outcome = c .in-Continue-passed .ensures tt .walked; held = front _ _ _ (c .copy-from-slice .ensures .after) }

@@ -1,0 +1,6 @@
+pub mod Readings
+pub mod Growth
+pub mod Laws
+pub mod Values
+pub mod Ranges
+pub mod Worked

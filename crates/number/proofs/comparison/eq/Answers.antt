@@ -1,0 +1,12 @@
+use borrow.Author.Needs.{needs}
+use mathlib.Core.Path.{_≡_}
+use Rattle.number.specs.Number.{folded}
+use Rattle.number.proofs.Exact.{compares}
+use Rattle.number.proofs.comparison.eq.Needs as need
+
+pub returns : need.returns
+returns g c =
+    let k = g .K·NumberKind .kind in
+    let x : c .operand .result ≡ folded k (c .args .a) = search needs in
+    let y : c .operand-2 .result ≡ folded k (c .args .b) = search needs in
+    compares (c .operand .result) (c .operand-2 .result) _ _ (c .operand .ensures .small) (c .operand-2 .ensures .small) x y

@@ -1,0 +1,3 @@
+pub mod Number
+pub mod Reading
+pub mod Decimal

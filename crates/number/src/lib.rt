@@ -1,0 +1,38 @@
+// Numbers: two kinds, their arithmetic, comparison and logic, and their decimal texts.
+mod arithmetic;
+mod comparison;
+mod decimal;
+mod kind;
+mod logic;
+mod text;
+
+pub use arithmetic::add;
+pub use arithmetic::div;
+pub use arithmetic::fold;
+pub use arithmetic::mul;
+pub use arithmetic::neg;
+pub use arithmetic::rem;
+pub use arithmetic::sub;
+pub use comparison::eq;
+pub use comparison::ge;
+pub use comparison::gt;
+pub use comparison::le;
+pub use comparison::lt;
+pub use comparison::ne;
+pub use decimal::Text;
+pub use decimal::write;
+pub use kind::Byte;
+pub use kind::ByteKind;
+pub use kind::Int;
+pub use kind::IntKind;
+pub use kind::NumberKind;
+pub use logic::and;
+pub use logic::extend;
+pub use logic::is_true;
+pub use logic::not;
+pub use logic::or;
+pub use logic::shrink;
+pub use text::Reading;
+pub use text::ReadingDebug;
+pub use text::ReadingPartialEq;
+pub use text::read;
