@@ -3,4 +3,3 @@ pub mod Growth
 pub mod Laws
 pub mod Values
 pub mod Ranges
-pub mod Worked

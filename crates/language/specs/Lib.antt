@@ -9,4 +9,3 @@ pub mod Operators
 pub mod Meaning
 pub mod Laws
 pub mod Ranges
-pub mod Cases

@@ -1,6 +1,5 @@
 // Dana: its programs as trees, what they mean, and the laws of that meaning.
 // Nothing here is to be run: each function's contract is a law, and its answer is 0.
-ghost use Rattle.language.specs.Cases.{WorkedCases};
 ghost use Rattle.language.specs.Laws.{MoreEntries, MoreBytes, BoundNeverShows, TakenAndSent};
 ghost use Rattle.language.specs.Ranges.{ValuesInRange};
 
@@ -35,13 +34,6 @@ pub fn taken_and_sent() -> u8
 // Where main's variables are reported of a program that keeps the rules, each is a number of its kind.
 pub fn values_in_range() -> u8
     ensures { λ _. ⌜ ValuesInRange ⌝ }
-{
-    0
-}
-
-// The small programs do what is written beside them.
-pub fn worked_cases() -> u8
-    ensures { λ _. ⌜ WorkedCases ⌝ }
 {
     0
 }

@@ -1,12 +1,15 @@
--- Small programs with what is reported of them: the meaning, worked out by hand.
+-- Small programs with what the check tells of their tables and what is reported of their runs, worked out by hand.
 use mathlib.Core.Path.{_≡_}
 use mathlib.Core.List.{List, [], _∷_, _++_}
 use Prim.Native.Nat.{ℕ, pred, _+_}
 use Prim.Native.String.{String}
 use lib.Chars.{codes}
 use lib.IntN.{pos}
+use lib.ListN.{length}
 use Rattle.std.specs.shelf.Lists.{All}
+use Rattle.std.specs.declared.option.Option.{Option}
 use Rattle.std.specs.declared.option.Option.the-variants.{Some, None}
+use Rattle.std.specs.declared.result.Result.the-variants.{Ok, Err}
 use Rattle.table.specs.declared.shape.Kind.{Kind}
 use Rattle.table.specs.declared.shape.Kind.the-variants.{Int, Byte}
 use Rattle.table.specs.declared.shape.Scope.the-variants.{Own, Main}
@@ -18,26 +21,52 @@ use Rattle.table.specs.declared.shape.Comparison.{Comparison}
 use Rattle.table.specs.declared.shape.Comparison.the-variants.{Equal, Unequal, Less, Greater, AtMost, AtLeast}
 use Rattle.table.specs.declared.shape.Junction.{Junction}
 use Rattle.table.specs.declared.shape.Junction.the-variants.{And, Or}
 use Rattle.language.specs.Tree.{Expr, constant, variable, unary, binary, call, read, none, more, compare, negate, join, holds, Stmt, skip, assign, perform, if, ifElse, loop, break, continue, exit, return, write, block, Stmts, done, next, Function, Program}
 use Rattle.language.specs.State.{took, sent, Report, running, waits, ended, fault, _▷_}
 use Rattle.language.specs.Meaning.{meaning, start}
+use Rattle.language.specs.Listing.{listP}
+use Rattle.language.specs.Layout.{layout}
+use Rattle.walk.specs.Walk.{Answer}
+use Rattle.walk.specs.Bodies.{checked}
+use Rattle.walk.specs.Faults.{told}
+use Rattle.walk.specs.declared.found.Passed.{Passed}
 
--- A program, the bytes fed to it and the room; a number of node entries, what is reported within them, and what within one fewer.
-pub record Case : Type 0 where
+-- A program that passes: the words of its translation, the bytes fed to it and the room; a number of node entries,
+-- what is reported within them, and what within one fewer.
+pub record Run : Type 0 where
   pub program : Program
+  pub words : ℕ
   pub fed : List ℕ
   pub room : ℕ
   pub entries : ℕ
   pub expected : Report
   pub before : Report
 
--- What is reported of a case's program within n entries.
-abbrev pub reported : Case → ℕ → Report
+-- What is reported of its program within n entries.
+abbrev pub reported : Run → ℕ → Report
 reported c n = meaning (c .program) (start (c .program) (c .fed) (c .room)) n
 
-pub record Holds (c : Case) : Type 0 where
+-- What the check tells of its program's table.
+abbrev pub passedAs : Run → Answer Passed
+passedAs c = Ok (record { functions = length (c .program); nodes = length (listP (c .program)); words = c .words })
+
+pub record RunHolds (c : Run) : Type 0 where
+  pub passes : checked (layout (c .program)) ≡ passedAs c
   pub within : reported c (c .entries) ≡ c .expected
   pub earlier : reported c (pred (c .entries)) ≡ c .before
+
+-- A program whose table is refused, with the refusal's number and place, or one that runs.
+pub data Case : Type 0 where
+  refused : Program → ℕ → ℕ → Case
+  runs : Run → Case
+
+abbrev pub toldBy : Answer Passed → Option (ℕ × ℕ)
+toldBy (Ok p) = None
+toldBy (Err e) = Some (told e)
+
+abbrev pub Holds : Case → Type 0
+Holds (refused P number place) = toldBy (checked (layout P)) ≡ Some (number, place)
+Holds (runs c) = RunHolds c
 
 -- Statements in a row.
 abbrev one : Stmt → Stmts
@@ -83,9 +112,9 @@ guarded j =
     only (one (if 1 (join 2 j (compare 3 Equal Int (int 4 0) (int 5 0)) (compare 6 Equal Int (binary 7 Div Int (int 8 1) (int 9 0)) (int 10 1)))
     (block 11 (one (write 12 Integer (int 13 5))))))
 
--- Loop 1 holds loop 2, which holds break: 1
-abbrev pub nested : Program
-nested = only (one (loop 1 1 (block 2 (one (loop 3 2 (block 4 (one (break 5 1))))))))
+-- Loop 1 holds loop 2, which holds a break of that name
+abbrev pub nested : ℕ → Program
+nested x = only (one (loop 1 1 (block 2 (one (loop 3 2 (block 4 (one (break 5 x))))))))
 
 -- A loop without name, round by round: count up; below 3 continue; break.
 abbrev counting : Program
@@ -216,56 +245,58 @@ abbrev onLowest : Binary → Program
 onLowest o = writes (binary 2 o Int (lowest 3) (minusOne 6))
 
 -- A program that writes one integer or byte, without reading.
-abbrev valueCase : Program → ℕ → String → Case
-valueCase P n text = record { program = P; fed = []; room = 10; entries = n; expected = sent (codes text) ▷ ended []; before = running }
+abbrev valueCase : Program → ℕ → ℕ → String → Case
+valueCase P words n text =
+    runs (record { program = P; words = words; fed = []; room = 10; entries = n; expected = sent (codes text) ▷ ended []; before = running })
 
 -- A program that writes what it has read, with the text fed to it.
 abbrev readCase : Program → List ℕ → Report → Case
-readCase P text r = record { program = P; fed = text; room = 10; entries = 3; expected = r; before = running }
+readCase P text r = runs (record { program = P; words = 4; fed = text; room = 10; entries = 3; expected = r; before = running })
 
 abbrev pub cases : List Case
 cases =
-    record { program = smallest; fed = []; room = 0; entries = 2; expected = ended []; before = running }
-    ∷ record { program = minusSeven; fed = []; room = 2; entries = 4; expected = sent (codes "-7") ▷ ended []; before = running }
-    ∷ record { program = minusSeven; fed = []; room = 1; entries = 4; expected = fault 65 1 []; before = running }
-    ∷ record { program = guarded Or; fed = []; room = 10; entries = 9; expected = sent (codes "5") ▷ ended []; before = running }
-    ∷ record { program = guarded And; fed = []; room = 10; entries = 10; expected = fault 61 7 []; before = running }
-    ∷ record { program = nested; fed = []; room = 0; entries = 6; expected = ended []; before = running }
-    ∷ record { program = counting; fed = []; room = 0; entries = 34; expected = ended (pos 3 ∷ []); before = running }
-    ∷ record { program = outer; fed = []; room = 0; entries = 20; expected = ended (pos 1 ∷ []); before = running }
-    ∷ record { program = denied; fed = []; room = 1; entries = 9; expected = sent (codes "A") ▷ ended []; before = running }
-    ∷ record { program = apart; fed = codes "BAC"; room = 1; entries = 5; expected = took (codes "B") ▷ took (codes "A") ▷ sent (codes "1") ▷ ended []; before = took (codes "B") ▷ running }
-    ∷ record { program = apart; fed = codes "B"; room = 1; entries = 5; expected = took (codes "B") ▷ waits; before = took (codes "B") ▷ running }
-    ∷ record { program = ordered; fed = codes "AB"; room = 1; entries = 8; expected = took (codes "A") ▷ took (codes "B") ▷ sent (codes "Y") ▷ ended []; before = took (codes "A") ▷ took (codes "B") ▷ running }
-    ∷ record { program = shadowed; fed = []; room = 1; entries = 9; expected = sent (codes "Y") ▷ ended []; before = sent (codes "Y") ▷ running }
-    ∷ record { program = calling; fed = codes "FA"; room = 1; entries = 12; expected = took (codes "F") ▷ took (codes "A") ▷ sent (codes "5") ▷ ended []; before = took (codes "F") ▷ took (codes "A") ▷ running }
-    ∷ record { program = kept; fed = []; room = 1; entries = 10; expected = sent (codes "1") ▷ ended (pos 7 ∷ []); before = running }
-    ∷ record { program = falling; fed = []; room = 0; entries = 5; expected = ended (pos 7 ∷ []); before = running }
-    ∷ record { program = leaving; fed = []; room = 0; entries = 8; expected = ended (pos 0 ∷ pos 5 ∷ []); before = running }
-    ∷ record { program = deep; fed = []; room = 0; entries = 64; expected = fault 62 3 []; before = running }
-    ∷ record { program = silent; fed = []; room = 0; entries = 5; expected = fault 63 3 (pos 0 ∷ []); before = running }
-    ∷ record { program = compared Equal; fed = []; room = 3; entries = 22; expected = sends "0" "1" "0"; before = sent (codes "0") ▷ sent (codes "1") ▷ running }
-    ∷ record { program = compared Unequal; fed = []; room = 3; entries = 22; expected = sends "1" "0" "1"; before = sent (codes "1") ▷ sent (codes "0") ▷ running }
-    ∷ record { program = compared Less; fed = []; room = 3; entries = 22; expected = sends "1" "0" "0"; before = sent (codes "1") ▷ sent (codes "0") ▷ running }
-    ∷ record { program = compared Greater; fed = []; room = 3; entries = 22; expected = sends "0" "0" "1"; before = sent (codes "0") ▷ sent (codes "0") ▷ running }
-    ∷ record { program = compared AtMost; fed = []; room = 3; entries = 22; expected = sends "1" "1" "0"; before = sent (codes "1") ▷ sent (codes "1") ▷ running }
-    ∷ record { program = compared AtLeast; fed = []; room = 3; entries = 22; expected = sends "0" "1" "1"; before = sent (codes "0") ▷ sent (codes "1") ▷ running }
-    ∷ record { program = compared Equal; fed = []; room = 2; entries = 22; expected = sent (codes "0") ▷ sent (codes "1") ▷ fault 65 29 []; before = sent (codes "0") ▷ sent (codes "1") ▷ running }
-    ∷ valueCase (writes (lowest 2)) 5 "-32768"
-    ∷ valueCase (writes (binary 2 Div Int (unary 3 Minus (int 4 7)) (int 5 2))) 6 "-3"
-    ∷ valueCase (writes (binary 2 Rem Int (unary 3 Minus (int 4 7)) (int 5 2))) 6 "-1"
-    ∷ valueCase (writes (binary 2 Mul Int (int 3 300) (int 4 300))) 5 "24464"
-    ∷ valueCase (onLowest Div) 8 "-32768"
-    ∷ valueCase (onLowest Rem) 8 "0"
-    ∷ valueCase (writes (unary 2 Minus (lowest 3))) 6 "-32768"
-    ∷ valueCase (writes (unary 2 Plus (minusOne 3))) 5 "-1"
-    ∷ valueCase (writesByte (binary 2 Add Byte (byte 3 250) (byte 4 10))) 5 "4"
-    ∷ valueCase (writesByte (binary 2 Sub Byte (byte 3 3) (byte 4 5))) 5 "254"
-    ∷ valueCase (writesByte (unary 2 Shrink (minusOne 3))) 5 "255"
-    ∷ valueCase (writes (unary 2 Extend (byte 3 255))) 4 "255"
-    ∷ valueCase (writesByte (binary 2 ByteAnd Byte (byte 3 2) (byte 4 4))) 5 "1"
-    ∷ valueCase (writesByte (binary 2 ByteOr Byte (byte 3 0) (byte 4 4))) 5 "1"
-    ∷ valueCase (writesByte (unary 2 ByteNot (byte 3 7))) 4 "0"
+    runs (record { program = smallest; words = 2; fed = []; room = 0; entries = 2; expected = ended []; before = running })
+    ∷ runs (record { program = minusSeven; words = 5; fed = []; room = 2; entries = 4; expected = sent (codes "-7") ▷ ended []; before = running })
+    ∷ runs (record { program = minusSeven; words = 5; fed = []; room = 1; entries = 4; expected = fault 65 1 []; before = running })
+    ∷ runs (record { program = guarded Or; words = 12; fed = []; room = 10; entries = 9; expected = sent (codes "5") ▷ ended []; before = running })
+    ∷ runs (record { program = guarded And; words = 12; fed = []; room = 10; entries = 10; expected = fault 61 7 []; before = running })
+    ∷ runs (record { program = nested 1; words = 5; fed = []; room = 0; entries = 6; expected = ended []; before = running })
+    ∷ refused (nested 3) 17 5
+    ∷ runs (record { program = counting; words = 12; fed = []; room = 0; entries = 34; expected = ended (pos 3 ∷ []); before = running })
+    ∷ runs (record { program = outer; words = 11; fed = []; room = 0; entries = 20; expected = ended (pos 1 ∷ []); before = running })
+    ∷ runs (record { program = denied; words = 10; fed = []; room = 1; entries = 9; expected = sent (codes "A") ▷ ended []; before = running })
+    ∷ runs (record { program = apart; words = 6; fed = codes "BAC"; room = 1; entries = 5; expected = took (codes "B") ▷ took (codes "A") ▷ sent (codes "1") ▷ ended []; before = took (codes "B") ▷ running })
+    ∷ runs (record { program = apart; words = 6; fed = codes "B"; room = 1; entries = 5; expected = took (codes "B") ▷ waits; before = took (codes "B") ▷ running })
+    ∷ runs (record { program = ordered; words = 7; fed = codes "AB"; room = 1; entries = 8; expected = took (codes "A") ▷ took (codes "B") ▷ sent (codes "Y") ▷ ended []; before = took (codes "A") ▷ took (codes "B") ▷ running })
+    ∷ runs (record { program = shadowed; words = 8; fed = []; room = 1; entries = 9; expected = sent (codes "Y") ▷ ended []; before = sent (codes "Y") ▷ running })
+    ∷ runs (record { program = calling; words = 14; fed = codes "FA"; room = 1; entries = 12; expected = took (codes "F") ▷ took (codes "A") ▷ sent (codes "5") ▷ ended []; before = took (codes "F") ▷ took (codes "A") ▷ running })
+    ∷ runs (record { program = kept; words = 12; fed = []; room = 1; entries = 10; expected = sent (codes "1") ▷ ended (pos 7 ∷ []); before = running })
+    ∷ runs (record { program = falling; words = 7; fed = []; room = 0; entries = 5; expected = ended (pos 7 ∷ []); before = running })
+    ∷ runs (record { program = leaving; words = 16; fed = []; room = 0; entries = 8; expected = ended (pos 0 ∷ pos 5 ∷ []); before = running })
+    ∷ runs (record { program = deep; words = 6; fed = []; room = 0; entries = 64; expected = fault 62 3 []; before = running })
+    ∷ runs (record { program = silent; words = 6; fed = []; room = 0; entries = 5; expected = fault 63 3 (pos 0 ∷ []); before = running })
+    ∷ runs (record { program = compared Equal; words = 26; fed = []; room = 3; entries = 22; expected = sends "0" "1" "0"; before = sent (codes "0") ▷ sent (codes "1") ▷ running })
+    ∷ runs (record { program = compared Unequal; words = 26; fed = []; room = 3; entries = 22; expected = sends "1" "0" "1"; before = sent (codes "1") ▷ sent (codes "0") ▷ running })
+    ∷ runs (record { program = compared Less; words = 26; fed = []; room = 3; entries = 22; expected = sends "1" "0" "0"; before = sent (codes "1") ▷ sent (codes "0") ▷ running })
+    ∷ runs (record { program = compared Greater; words = 26; fed = []; room = 3; entries = 22; expected = sends "0" "0" "1"; before = sent (codes "0") ▷ sent (codes "0") ▷ running })
+    ∷ runs (record { program = compared AtMost; words = 26; fed = []; room = 3; entries = 22; expected = sends "1" "1" "0"; before = sent (codes "1") ▷ sent (codes "1") ▷ running })
+    ∷ runs (record { program = compared AtLeast; words = 26; fed = []; room = 3; entries = 22; expected = sends "0" "1" "1"; before = sent (codes "0") ▷ sent (codes "1") ▷ running })
+    ∷ runs (record { program = compared Equal; words = 26; fed = []; room = 2; entries = 22; expected = sent (codes "0") ▷ sent (codes "1") ▷ fault 65 29 []; before = sent (codes "0") ▷ sent (codes "1") ▷ running })
+    ∷ valueCase (writes (lowest 2)) 6 5 "-32768"
+    ∷ valueCase (writes (binary 2 Div Int (unary 3 Minus (int 4 7)) (int 5 2))) 7 6 "-3"
+    ∷ valueCase (writes (binary 2 Rem Int (unary 3 Minus (int 4 7)) (int 5 2))) 7 6 "-1"
+    ∷ valueCase (writes (binary 2 Mul Int (int 3 300) (int 4 300))) 6 5 "24464"
+    ∷ valueCase (onLowest Div) 9 8 "-32768"
+    ∷ valueCase (onLowest Rem) 9 8 "0"
+    ∷ valueCase (writes (unary 2 Minus (lowest 3))) 7 6 "-32768"
+    ∷ valueCase (writes (unary 2 Plus (minusOne 3))) 5 5 "-1"
+    ∷ valueCase (writesByte (binary 2 Add Byte (byte 3 250) (byte 4 10))) 6 5 "4"
+    ∷ valueCase (writesByte (binary 2 Sub Byte (byte 3 3) (byte 4 5))) 6 5 "254"
+    ∷ valueCase (writesByte (unary 2 Shrink (minusOne 3))) 6 5 "255"
+    ∷ valueCase (writes (unary 2 Extend (byte 3 255))) 4 4 "255"
+    ∷ valueCase (writesByte (binary 2 ByteAnd Byte (byte 3 2) (byte 4 4))) 6 5 "1"
+    ∷ valueCase (writesByte (binary 2 ByteOr Byte (byte 3 0) (byte 4 4))) 6 5 "1"
+    ∷ valueCase (writesByte (unary 2 ByteNot (byte 3 7))) 5 4 "0"
     ∷ readCase echoes (lineOf "0042" ++ codes "5") (took (lineOf "0042") ▷ sent (codes "42") ▷ ended [])
     ∷ readCase echoes (lineOf "32767") (took (lineOf "32767") ▷ sent (codes "32767") ▷ ended [])
     ∷ readCase echoes (lineOf "32768") (fault 64 2 [])

@@ -1,5 +1,0 @@
-use Rattle.language.proofs.Worked.{worked}
-use Rattle.language.proofs.worked_cases.Needs as need
-
-pub returns : need.returns
-returns c = worked
