@@ -1,11 +1,7 @@
 // Holding a program, and replacing it by a table that passes.
 ghost use mathlib.Core.Path.{_≡_};
-ghost use Prim.Native.Nat.{_≤_};
-ghost use lib.ListN.{length};
 ghost use Rattle.std.specs.Results.{Cases};
-ghost use Rattle.std.specs.declared.result.Result.the-variants.{Ok, Err};
 ghost use Rattle.walk.specs.Bodies.{checked};
-ghost use Rattle.check.specs.Exact.{Only};
 ghost use Rattle.check.specs.Held.{held, smallest};
 use crate::check::check_table;
 use crate::program::Program;
@@ -41,13 +37,6 @@ impl Program {
         ensures { λ r. ⌜ now r ≡ held (now (self .entry)) ⌝ }
     {
         &self.room[0..self.size]
-    }
-
-    // What the check told of the table that is held: it passes.
-    pub fn passed(&self) -> Passed
-        ensures { λ r. ⌜ checked (held (now (self .entry))) ≡ Ok r ⌝ }
-    {
-        self.passed
     }
 
     // Holds another table, if it passes; else the program stays exactly as it was.
