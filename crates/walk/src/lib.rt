@@ -5,6 +5,7 @@ mod conditions;
 mod fault;
 mod found;
 mod loops;
+mod measure;
 mod opens;
 mod refer;
 mod statements;

@@ -1,0 +1,30 @@
+use borrow.Author.Needs.{needs}
+use native.Mathlib.Omega.{arith}
+use mathlib.Core.Path.{_≡_}
+use Prim.Native.Nat.{_-_}
+use Rattle.table.specs.View.{view}
+use Rattle.walk.specs.Bodies.{envOf}
+use Rattle.walk.specs.Names.{names}
+use Rattle.walk.proofs.Steps.{stmt-step, block-step, items-step}
+use Rattle.walk.proofs.statements.+block+stmt+stmt_of.Needs as need
+
+pub block-returns-in-Break-count : need.block-returns-in-Break-count
+block-returns-in-Break-count t c = search (needs, block-step)
+
+pub block-returns-in-Break-statement : need.block-returns-in-Break-statement
+block-returns-in-Break-statement t c = search (needs, block-step, items-step)
+
+pub block-loop-i-again : need.block-loop-i-again
+block-loop-i-again t c = search (needs, items-step)
+
+pub block-returns : need.block-returns
+block-returns t c = search (needs, block-step)
+
+pub stmt-returns-in-Break-shape : need.stmt-returns-in-Break-shape
+stmt-returns-in-Break-shape t c = search (needs, stmt-step)
+
+pub stmt-returns-in-Break-size : need.stmt-returns-in-Break-size
+stmt-returns-in-Break-size t c = search (needs, stmt-step)
+
+pub stmt-returns : need.stmt-returns
+stmt-returns t c = search (needs, stmt-step)
