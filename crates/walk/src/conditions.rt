@@ -5,16 +5,16 @@ ghost use Rattle.std.specs.Vec.{made};
 ghost use Rattle.table.specs.View.{view};
 ghost use Rattle.walk.specs.Bodies.{envOf};
 ghost use Rattle.walk.specs.Walk.{exprFrom, condAt, condFrom};
-use crate::arrive::arrive_test;
+use crate::arrive::arrive;
 use crate::fault::CheckFault;
 use crate::found::Context;
 use crate::found::Size;
-use crate::measure::comparison;
-use crate::measure::one_value;
 use crate::measure::side_by_side;
-use crate::values::expr;
+use crate::uses::compare;
+use crate::uses::one_value;
 use table::Condition;
 use table::Kind;
+use table::Shape;
 use table::Table;
 
 // A condition: its height and words, and the next node's place.
@@ -27,9 +27,11 @@ pub(crate) fn cond(
     ensures is { λ r. ⌜ r ≡ condFrom (view (now (t .entry))) (envOf (view (now (t .entry))) (now (cx .entry))) left at ⌝ }
     ensures bound { λ r. ⌜ made r (λ p. (at < p .1) × (p .0 .height + at ≤ p .1) × (p .0 .words + at ≤ p .1) × (p .1 ≤ now (t .entry) .nodes)) ⌝ }
 {
-    let shape = arrive_test(t, at, left)?;
-    let (size, next) = cond_of(t, cx, shape, at, left - 1)?;
-    Ok((size, next))
+    match arrive(t, at, left) {
+        Ok(Shape::Condition(shape)) => cond_of(t, cx, shape, at, left - 1),
+        Ok(_) => Err(CheckFault::Sort(at)),
+        Err(fault) => Err(fault),
+    }
 }
 
 // The condition of that shape at `at`, with `left` levels of nesting left for its children.
@@ -45,11 +47,7 @@ fn cond_of(
     ensures bound { λ r. ⌜ made r (λ p. (at < p .1) × (p .0 .height + at ≤ p .1) × (p .0 .words + at ≤ p .1) × (p .1 ≤ now (t .entry) .nodes)) ⌝ }
 {
     match shape {
-        Condition::Compare(_) => {
-            let (a, middle) = expr(t, cx, at + 1, left)?;
-            let (b, next) = expr(t, cx, middle, left)?;
-            comparison(a, b, next, at)
-        }
+        Condition::Compare(_) => compare(t, cx, at, left),
         Condition::Not => {
             let (c, next) = cond(t, cx, at + 1, left)?;
             Ok((c, next))
@@ -59,9 +57,6 @@ fn cond_of(
             let (d, next) = cond(t, cx, middle, left)?;
             Ok((side_by_side(c, d), next))
         }
-        Condition::Holds => {
-            let (a, next) = expr(t, cx, at + 1, left)?;
-            one_value(Kind::Byte, a, next, at)
-        }
+        Condition::Holds => one_value(t, cx, Kind::Byte, at, left),
     }
 }

@@ -9,6 +9,7 @@ mod measure;
 mod opens;
 mod refer;
 mod statements;
+mod uses;
 mod values;
 mod whole;
 

@@ -99,7 +99,7 @@ pub(crate) fn comparison(
 }
 
 // A node with one expression below it, of the kind that it asks for.
-pub(crate) fn one_value(
+pub(crate) fn topped_value(
     kind: Kind,
     value: Found,
     next: usize,

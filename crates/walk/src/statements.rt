@@ -6,23 +6,21 @@ ghost use Rattle.table.specs.View.{view};
 ghost use Rattle.walk.specs.Bodies.{envOf};
 ghost use Rattle.walk.specs.Names.{names};
 ghost use Rattle.walk.specs.Walk.{exprFrom, condFrom, stmtAt, stmtFrom, blockFrom, leaves, exits};
-use crate::arrive::arrive_act;
-use crate::arrive::arrive_block;
+ghost use Rattle.table.specs.declared.shape.Statement.the-variants.{Loop as Repeat};
+use crate::arrive::arrive;
 use crate::arrive::format_kind;
 use crate::conditions::cond;
 use crate::fault::CheckFault;
 use crate::found::Context;
 use crate::found::Size;
 use crate::loops::Loops;
-use crate::measure::called_with;
-use crate::measure::one_value;
 use crate::measure::side_by_side;
 use crate::opens::LoopGuard;
 use crate::opens::push_loop;
-use crate::refer::function_called;
-use crate::values::arguments;
-use crate::values::expr;
+use crate::uses::one_value;
+use crate::uses::perform;
 use table::Kind;
+use table::Shape;
 use table::Statement;
 use table::Table;
 
@@ -71,9 +69,11 @@ fn stmt(
     ensures kept { λ _. ⌜ names (now (loops .exit)) ≡ names (now (loops .entry)) ⌝ }
     ensures bound { λ r. ⌜ made r (λ p. (at < p .1) × (p .0 .height + at ≤ p .1) × (p .0 .words + at ≤ p .1) × (p .1 ≤ now (t .entry) .nodes)) ⌝ }
 {
-    let shape = arrive_act(t, at, left)?;
-    let (size, next) = stmt_of(t, cx, shape, at, left - 1, loops)?;
-    Ok((size, next))
+    match arrive(t, at, left) {
+        Ok(Shape::Statement(shape)) => stmt_of(t, cx, shape, at, left - 1, loops),
+        Ok(_) => Err(CheckFault::Sort(at)),
+        Err(fault) => Err(fault),
+    }
 }
 
 // The statement of that shape at `at`, with `left` levels of nesting left for its children.
@@ -100,17 +100,9 @@ fn stmt_of(
         }
         Statement::Assign(scope, slot) => {
             let kind = cx.variable_kind(scope, slot, at)?;
-            let (value, next) = expr(t, cx, at + 1, left)?;
-            one_value(kind, value, next, at)
+            one_value(t, cx, kind, at, left)
         }
-        Statement::Perform(f) => {
-            let callee = function_called(t, f, at)?;
-            if callee.result.is_some() {
-                return Err(CheckFault::Function(at));
-            }
-            let (taken, next) = arguments(t, cx, &callee, at + 1, left)?;
-            called_with(taken, next, at)
-        }
+        Statement::Perform(f) => perform(t, cx, f, at, left),
         Statement::If => {
             let (c, middle) = cond(t, cx, at + 1, left)?;
             let (b, next) = block(t, cx, middle, left, loops)?;
@@ -124,31 +116,44 @@ fn stmt_of(
             let words = c.words + b.words + d.words + 1;
             Ok((Size { height, words }, next))
         }
-        Statement::Loop(name) => {
-            if loops.open_count() >= 16 {
-                return Err(CheckFault::Loop(at));
-            }
-            push_loop(loops, name);
-            let guard = LoopGuard { held: loops };
-            let (b, next) = block(t, cx, at + 1, left, guard.held)?;
-            let height = b.height;
-            let words = b.words + 1;
-            Ok((Size { height, words }, next))
-        }
+        Statement::Loop(name) => repeat(t, cx, name, at, left, loops),
         Statement::Break(name) => leave_loop(loops, name, at),
         Statement::Continue(name) => leave_loop(loops, name, at),
         Statement::Exit => exit_from(cx.own.result, at),
-        Statement::Return => {
-            let kind = cx.own.result.ok_or(CheckFault::Exit(at))?;
-            let (value, next) = expr(t, cx, at + 1, left)?;
-            one_value(kind, value, next, at)
-        }
+        Statement::Return => match cx.own.result {
+            Some(kind) => one_value(t, cx, kind, at, left),
+            None => Err(CheckFault::Exit(at)),
+        },
         Statement::Write(format) => {
             let kind = format_kind(format);
-            let (value, next) = expr(t, cx, at + 1, left)?;
-            one_value(kind, value, next, at)
+            one_value(t, cx, kind, at, left)
         }
     }
+}
+
+// A loop: its name is open for its block alone.
+fn repeat(
+    t: &Table,
+    cx: &Context,
+    name: u16,
+    at: usize,
+    left: u8,
+    loops: &mut Loops,
+) -> Result<(Size, usize), CheckFault>
+    requires { ⌜ at < now t .nodes ⌝ }
+    ensures is { λ r. ⌜ r ≡ stmtAt (envOf (view (now (t .entry))) (now (cx .entry))) (exprFrom (view (now (t .entry))) (envOf (view (now (t .entry))) (now (cx .entry))) left) (condFrom (view (now (t .entry))) (envOf (view (now (t .entry))) (now (cx .entry))) left) (blockFrom (view (now (t .entry))) (envOf (view (now (t .entry))) (now (cx .entry))) left) (names (now (loops .entry))) at (Repeat name) ⌝ }
+    ensures kept { λ _. ⌜ names (now (loops .exit)) ≡ names (now (loops .entry)) ⌝ }
+    ensures bound { λ r. ⌜ made r (λ p. (at < p .1) × (p .0 .height + at ≤ p .1) × (p .0 .words + at ≤ p .1) × (p .1 ≤ now (t .entry) .nodes)) ⌝ }
+{
+    if loops.open_count() >= 16 {
+        return Err(CheckFault::Loop(at));
+    }
+    push_loop(loops, name);
+    let guard = LoopGuard { held: loops };
+    let (b, next) = block(t, cx, at + 1, left, guard.held)?;
+    let height = b.height;
+    let words = b.words + 1;
+    Ok((Size { height, words }, next))
 }
 
 // A block among the open loops: its height and words, and the next node's place.
@@ -163,7 +168,9 @@ pub(crate) fn block(
     ensures kept { λ _. ⌜ names (now (loops .exit)) ≡ names (now (loops .entry)) ⌝ }
     ensures bound { λ r. ⌜ made r (λ p. (at < p .1) × (p .0 .height + at + 1 ≤ p .1) × (p .0 .words + at + 1 ≤ p .1) × (p .1 ≤ now (t .entry) .nodes)) ⌝ }
 {
-    let count = arrive_block(t, at, left)?;
+    let Shape::Block(count) = arrive(t, at, left)? else {
+        return Err(CheckFault::Sort(at));
+    };
     let mut size = Size {
         height: 0,
         words: 0,

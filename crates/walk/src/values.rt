@@ -6,7 +6,7 @@ ghost use Rattle.table.specs.View.{view};
 ghost use Rattle.language.specs.Rules.{parameterKinds};
 ghost use Rattle.walk.specs.Bodies.{envOf, signatureOf};
 ghost use Rattle.walk.specs.Walk.{exprAt, exprFrom, argsFrom, noArguments};
-use crate::arrive::arrive_value;
+use crate::arrive::arrive;
 use crate::arrive::format_kind;
 use crate::fault::CheckFault;
 use crate::found::Arguments;
@@ -22,6 +22,7 @@ use crate::refer::function_called;
 use crate::refer::parameter_kind;
 use table::Expression;
 use table::Function;
+use table::Shape;
 use table::Table;
 
 // An expression: its kind, height and words, and the next node's place.
@@ -34,9 +35,11 @@ pub(crate) fn expr(
     ensures is { λ r. ⌜ r ≡ exprFrom (view (now (t .entry))) (envOf (view (now (t .entry))) (now (cx .entry))) left at ⌝ }
     ensures bound { λ r. ⌜ made r (λ p. (at < p .1) × (p .0 .height + at ≤ p .1) × (p .0 .words + at ≤ p .1) × (p .1 ≤ now (t .entry) .nodes)) ⌝ }
 {
-    let shape = arrive_value(t, at, left)?;
-    let (found, next) = expr_of(t, cx, shape, at, left - 1)?;
-    Ok((found, next))
+    match arrive(t, at, left) {
+        Ok(Shape::Expression(shape)) => expr_of(t, cx, shape, at, left - 1),
+        Ok(_) => Err(CheckFault::Sort(at)),
+        Err(fault) => Err(fault),
+    }
 }
 
 // The expression of that shape at `at`, with `left` levels of nesting left for its children.
@@ -68,7 +71,9 @@ fn expr_of(
         }
         Expression::Call(f) => {
             let callee = function_called(t, f, at)?;
-            let kind = callee.result.ok_or(CheckFault::Function(at))?;
+            let Some(kind) = callee.result else {
+                return Err(CheckFault::Function(at));
+            };
             let (taken, next) = arguments(t, cx, &callee, at + 1, left)?;
             value_of_call(kind, taken, next, at)
         }

@@ -2,11 +2,11 @@ use borrow.Author.Needs.{needs}
 use Rattle.walk.proofs.Steps.{cond-step}
 use Rattle.walk.proofs.conditions.+cond+cond_of.Needs as need
 
-pub cond-returns-in-Break-shape : need.cond-returns-in-Break-shape
-cond-returns-in-Break-shape t c = search (needs, cond-step)
+pub cond-returns-in-Ok-Condition : need.cond-returns-in-Ok-Condition
+cond-returns-in-Ok-Condition t c = search (needs, cond-step)
 
-pub cond-returns-in-Break-size : need.cond-returns-in-Break-size
-cond-returns-in-Break-size t c = search (needs, cond-step)
+pub cond-returns-in-Ok : need.cond-returns-in-Ok
+cond-returns-in-Ok t c = search (needs, cond-step)
 
-pub cond-returns : need.cond-returns
-cond-returns t c = search (needs, cond-step)
+pub cond-returns-in-Err : need.cond-returns-in-Err
+cond-returns-in-Err t c = search (needs, cond-step)

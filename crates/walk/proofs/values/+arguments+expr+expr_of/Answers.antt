@@ -42,11 +42,11 @@ arguments-loop-kind-again t c =
 pub arguments-returns : need.arguments-returns
 arguments-returns t c = search (needs, args-end)
 
-pub expr-returns-in-Break-shape : need.expr-returns-in-Break-shape
-expr-returns-in-Break-shape t c = search (needs, expr-step)
+pub expr-returns-in-Ok-Expression : need.expr-returns-in-Ok-Expression
+expr-returns-in-Ok-Expression t c = search (needs, expr-step)
 
-pub expr-returns-in-Break-found : need.expr-returns-in-Break-found
-expr-returns-in-Break-found t c = search (needs, expr-step)
+pub expr-returns-in-Ok : need.expr-returns-in-Ok
+expr-returns-in-Ok t c = search (needs, expr-step)
 
-pub expr-returns : need.expr-returns
-expr-returns t c = search (needs, expr-step)
+pub expr-returns-in-Err : need.expr-returns-in-Err
+expr-returns-in-Err t c = search (needs, expr-step)

@@ -4,16 +4,19 @@ use Rattle.table.specs.View.{view}
 use Rattle.walk.specs.Bodies.{envOf}
 use Rattle.walk.specs.Names.{names}
 use Rattle.walk.specs.Walk.{stmtFrom, itemsFrom, size}
-use Rattle.walk.proofs.statements.+block+stmt+stmt_of.Given as given
+use Rattle.walk.proofs.statements.+block+repeat+stmt+stmt_of.Given as given
 
 abbrev pub μ-block : given.MeasureT-block
-μ-block l = 2 * l .left
+μ-block l = 3 * l .left
 
 abbrev pub μ-stmt : given.MeasureT-stmt
-μ-stmt l = 2 * l .left
+μ-stmt l = 3 * l .left
 
 abbrev pub μ-stmt-of : given.MeasureT-stmt-of
-μ-stmt-of l = 2 * l .left + 1
+μ-stmt-of l = 3 * l .left + 2
+
+abbrev pub μ-repeat : given.MeasureT-repeat
+μ-repeat l = 3 * l .left + 1
 
 abbrev pub Inv-block-loop-i : given.InvT-block-loop-i
 Inv-block-loop-i l =
