@@ -1,10 +1,4 @@
 use borrow.Author.Needs.{needs}
-use native.Mathlib.Omega.{arith}
-use mathlib.Core.Path.{_≡_}
-use Prim.Native.Nat.{_-_}
-use Rattle.table.specs.View.{view}
-use Rattle.walk.specs.Bodies.{envOf}
-use Rattle.walk.specs.Names.{names}
 use Rattle.walk.proofs.Steps.{stmt-step, block-step, items-step}
 use Rattle.walk.proofs.statements.+block+repeat+stmt+stmt_of.Needs as need
 
