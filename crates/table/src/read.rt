@@ -2,7 +2,7 @@
 ghost use mathlib.Core.Path.{_≡_};
 ghost use Rattle.std.specs.shelf.Maps.{nth};
 ghost use Rattle.table.specs.Faults.{toldOfTable};
-ghost use Rattle.table.specs.Fields.{headerOf, resultOf, recordFits, functionFrom, recordHolds, firstBroken, layoutOf, variablesOf};
+ghost use Rattle.table.specs.Fields.{headerOf, resultOf, recordFits, functionFrom, recordHolds, firstBroken, layoutOf, kindBit, variablesOf};
 ghost use Rattle.table.specs.View.{view, nodeOf, functionOf};
 use crate::record::Function;
 use crate::record::Header;
@@ -158,6 +158,17 @@ pub fn read_layout(bytes: &[u8]) -> Result<Header, TableFault>
     }
 }
 
+// The kind that a slot's bit tells; that of slot 0 is the most significant.
+fn kind_bit(kinds: u32, slot: u16) -> Kind
+    ensures { λ r. ⌜ r ≡ kindBit kinds slot ⌝ }
+{
+    if (kinds >> 31u16.saturating_sub(slot)) % 2 == 0 {
+        Kind::Int
+    } else {
+        Kind::Byte
+    }
+}
+
 impl Function {
     // The kind of the variable in a slot, or none if there is no such slot.
     pub fn variable(&self, slot: u16) -> Option<Kind>
@@ -166,11 +177,7 @@ impl Function {
         if slot >= u16::from(self.variables) {
             return None;
         }
-        if (self.kinds >> 31u16.saturating_sub(slot)) % 2 == 0 {
-            Some(Kind::Int)
-        } else {
-            Some(Kind::Byte)
-        }
+        Some(kind_bit(self.kinds, slot))
     }
 }
 

@@ -1,7 +1,7 @@
 -- The names of the open loops one at a time.
-use mathlib.Core.Path.{_≡_, refl, ap, ap₂, _∙_}
+use mathlib.Core.Path.{_≡_, refl, ap, ap₂}
 use mathlib.Core.Bool.{true, cond}
-use mathlib.Core.List.{List, [], _∷_}
+use mathlib.Core.List.{List, _∷_}
 use mathlib.Core.Logic.{_≢_}
 use Prim.Native.Nat.{ℕ, zero, suc, _+_, _-_, _<_, _≤_}
 use native.Mathlib.Omega.{arith}
@@ -24,9 +24,9 @@ newest-set (suc n) i xs m h =
 pub newest-push : (n : ℕ) (xs : List ℕ) (m : ℕ) → n < length xs → newest (n + 1) (set xs n m) ≡ m ∷ newest n xs
 newest-push n xs m h = rw add-one (ap₂ _∷_ (getD-set-same xs n m 0 h) (newest-set n n xs m (omega arith)))
 
-pub newest-pop : (n : ℕ) (xs : List ℕ) → 0 < n → newest (n - 1) xs ≡ drop 1 (newest n xs)
-newest-pop zero xs h = absurd (omega arith)
-newest-pop (suc n) xs h = let e : suc n - 1 ≡ n = omega arith in rw e
+pub newest-pop : (n : ℕ) (xs : List ℕ) → newest (n - 1) xs ≡ drop 1 (newest n xs)
+newest-pop zero xs = refl
+newest-pop (suc n) xs = let e : suc n - 1 ≡ n = omega arith in rw e
 
 pub named-step : (m n : ℕ) (xs : List ℕ) → 0 < n →
     named m (newest n xs) ≡ cond (eqb (getD xs (n - 1) 0) m) true (named m (newest (n - 1) xs))

@@ -1,28 +1,20 @@
 // Arrival at a node: the rules that come before its children.
 ghost use mathlib.Core.Path.{_≡_};
-ghost use Prim.Native.Nat.{_-_, _<_};
+ghost use Prim.Native.Nat.{_<_};
 ghost use Rattle.std.specs.Vec.{made};
-ghost use Rattle.table.specs.Flow.{onward};
 ghost use Rattle.table.specs.View.{view};
 ghost use Rattle.language.specs.Measures.{formatKind, operandKind, unaryKind, unaryWords};
-ghost use Rattle.language.specs.Rules.{slotKind};
-ghost use Rattle.walk.specs.Bodies.{envOf};
-ghost use Rattle.walk.specs.Walk.{arrived, asValue, asTest, asAct, asBlock, sameKind, operates};
+ghost use Rattle.walk.specs.Walk.{arrived, sameKind, operates};
 use crate::fault::CheckFault;
-use crate::found::Context;
 use table::Binary;
-use table::Condition;
-use table::Expression;
 use table::Format;
 use table::Kind;
-use table::Scope;
 use table::Shape;
-use table::Statement;
 use table::Table;
 use table::Unary;
 
 // The node at `at`, with `left` levels of nesting left for it and below it.
-fn arrive(t: &Table, at: usize, left: u8) -> Result<Shape, CheckFault>
+pub(crate) fn arrive(t: &Table, at: usize, left: u8) -> Result<Shape, CheckFault>
     ensures is { λ r. ⌜ r ≡ arrived (view (now (t .entry))) left at ⌝ }
     ensures within { λ r. ⌜ made r (λ _. (at < now (t .entry) .nodes) × (0 < left)) ⌝ }
 {
@@ -33,46 +25,6 @@ fn arrive(t: &Table, at: usize, left: u8) -> Result<Shape, CheckFault>
         return Err(CheckFault::Nesting(at));
     }
     node.shape().ok_or(CheckFault::Field(at))
-}
-
-pub(crate) fn arrive_value(t: &Table, at: usize, left: u8) -> Result<Expression, CheckFault>
-    ensures is { λ r. ⌜ r ≡ onward (arrived (view (now (t .entry))) left at) (asValue at) ⌝ }
-    ensures within { λ r. ⌜ made r (λ _. (at < now (t .entry) .nodes) × (0 < left)) ⌝ }
-{
-    match arrive(t, at, left)? {
-        Shape::Expression(shape) => Ok(shape),
-        _ => Err(CheckFault::Sort(at)),
-    }
-}
-
-pub(crate) fn arrive_test(t: &Table, at: usize, left: u8) -> Result<Condition, CheckFault>
-    ensures is { λ r. ⌜ r ≡ onward (arrived (view (now (t .entry))) left at) (asTest at) ⌝ }
-    ensures within { λ r. ⌜ made r (λ _. (at < now (t .entry) .nodes) × (0 < left)) ⌝ }
-{
-    match arrive(t, at, left)? {
-        Shape::Condition(shape) => Ok(shape),
-        _ => Err(CheckFault::Sort(at)),
-    }
-}
-
-pub(crate) fn arrive_act(t: &Table, at: usize, left: u8) -> Result<Statement, CheckFault>
-    ensures is { λ r. ⌜ r ≡ onward (arrived (view (now (t .entry))) left at) (asAct at) ⌝ }
-    ensures within { λ r. ⌜ made r (λ _. (at < now (t .entry) .nodes) × (0 < left)) ⌝ }
-{
-    match arrive(t, at, left)? {
-        Shape::Statement(shape) => Ok(shape),
-        _ => Err(CheckFault::Sort(at)),
-    }
-}
-
-pub(crate) fn arrive_block(t: &Table, at: usize, left: u8) -> Result<u16, CheckFault>
-    ensures is { λ r. ⌜ r ≡ onward (arrived (view (now (t .entry))) left at) (asBlock at) ⌝ }
-    ensures within { λ r. ⌜ made r (λ _. (at < now (t .entry) .nodes) × (0 < left)) ⌝ }
-{
-    match arrive(t, at, left)? {
-        Shape::Block(count) => Ok(count),
-        _ => Err(CheckFault::Sort(at)),
-    }
 }
 
 pub(crate) fn same_kind(a: Kind, b: Kind) -> bool

@@ -4,15 +4,17 @@ ghost use Prim.Native.Nat.{_+_, _<_, _≤_};
 ghost use Rattle.std.specs.Vec.{made};
 ghost use Rattle.table.specs.View.{view};
 ghost use Rattle.walk.specs.Bodies.{envOf};
-ghost use Rattle.walk.specs.Walk.{condFrom};
-use crate::arrive::arrive_test;
-use crate::arrive::same_kind;
+ghost use Rattle.walk.specs.Walk.{exprFrom, condAt, condFrom};
+use crate::arrive::arrive;
 use crate::fault::CheckFault;
 use crate::found::Context;
 use crate::found::Size;
-use crate::values::expr;
+use crate::measure::side_by_side;
+use crate::uses::compare;
+use crate::uses::one_value;
 use table::Condition;
 use table::Kind;
+use table::Shape;
 use table::Table;
 
 // A condition: its height and words, and the next node's place.
@@ -25,36 +27,36 @@ pub(crate) fn cond(
     ensures is { λ r. ⌜ r ≡ condFrom (view (now (t .entry))) (envOf (view (now (t .entry))) (now (cx .entry))) left at ⌝ }
     ensures bound { λ r. ⌜ made r (λ p. (at < p .1) × (p .0 .height + at ≤ p .1) × (p .0 .words + at ≤ p .1) × (p .1 ≤ now (t .entry) .nodes)) ⌝ }
 {
-    match arrive_test(t, at, left)? {
-        Condition::Compare(_) => {
-            let (a, middle) = expr(t, cx, at + 1, left - 1)?;
-            let (b, next) = expr(t, cx, middle, left - 1)?;
-            if !same_kind(a.kind, b.kind) {
-                return Err(CheckFault::Child(at));
-            }
-            let height = a.height.max(1 + b.height);
-            let words = a.words + b.words + 1;
-            Ok((Size { height, words }, next))
-        }
+    match arrive(t, at, left) {
+        Ok(Shape::Condition(shape)) => cond_of(t, cx, shape, at, left - 1),
+        Ok(_) => Err(CheckFault::Sort(at)),
+        Err(fault) => Err(fault),
+    }
+}
+
+// The condition of that shape at `at`, with `left` levels of nesting left for its children.
+fn cond_of(
+    t: &Table,
+    cx: &Context,
+    shape: Condition,
+    at: usize,
+    left: u8,
+) -> Result<(Size, usize), CheckFault>
+    requires { ⌜ at < now t .nodes ⌝ }
+    ensures is { λ r. ⌜ r ≡ condAt (exprFrom (view (now (t .entry))) (envOf (view (now (t .entry))) (now (cx .entry))) left) (condFrom (view (now (t .entry))) (envOf (view (now (t .entry))) (now (cx .entry))) left) at shape ⌝ }
+    ensures bound { λ r. ⌜ made r (λ p. (at < p .1) × (p .0 .height + at ≤ p .1) × (p .0 .words + at ≤ p .1) × (p .1 ≤ now (t .entry) .nodes)) ⌝ }
+{
+    match shape {
+        Condition::Compare(_) => compare(t, cx, at, left),
         Condition::Not => {
-            let (c, next) = cond(t, cx, at + 1, left - 1)?;
+            let (c, next) = cond(t, cx, at + 1, left)?;
             Ok((c, next))
         }
         Condition::Join(_) => {
-            let (c, middle) = cond(t, cx, at + 1, left - 1)?;
-            let (d, next) = cond(t, cx, middle, left - 1)?;
-            let height = c.height.max(d.height);
-            let words = c.words + d.words;
-            Ok((Size { height, words }, next))
+            let (c, middle) = cond(t, cx, at + 1, left)?;
+            let (d, next) = cond(t, cx, middle, left)?;
+            Ok((side_by_side(c, d), next))
         }
-        Condition::Holds => {
-            let (a, next) = expr(t, cx, at + 1, left - 1)?;
-            if !same_kind(Kind::Byte, a.kind) {
-                return Err(CheckFault::Child(at));
-            }
-            let height = a.height;
-            let words = a.words + 1;
-            Ok((Size { height, words }, next))
-        }
+        Condition::Holds => one_value(t, cx, Kind::Byte, at, left),
     }
 }

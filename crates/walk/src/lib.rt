@@ -5,9 +5,11 @@ mod conditions;
 mod fault;
 mod found;
 mod loops;
+mod measure;
 mod opens;
 mod refer;
 mod statements;
+mod uses;
 mod values;
 mod whole;
 

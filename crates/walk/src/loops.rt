@@ -1,5 +1,4 @@
 // The loops that are open around a node.
-ghost use mathlib.Core.Path.{_≡_};
 ghost use Prim.Native.Nat.{_≤_};
 
 // Their names, the innermost last: those below the count.

@@ -1,10 +1,10 @@
 // Opening and closing a loop's name.
 ghost use mathlib.Core.Path.{_≡_};
 ghost use mathlib.Core.List.{_∷_, []};
-ghost use Prim.Native.Nat.{_<_};
+ghost use Prim.Native.Nat.{_<_, _≤_};
 ghost use lib.ListN.{length, drop};
 ghost use Rattle.language.specs.Rules.{isOpen, named};
-ghost use Rattle.walk.specs.Names.{names};
+ghost use Rattle.walk.specs.Names.{names, newest};
 use crate::loops::Loops;
 
 impl Loops {
@@ -22,6 +22,14 @@ impl Loops {
         ensures { λ r. ⌜ r ≡ length (names (now (self .entry))) ⌝ }
     {
         self.count
+    }
+
+    // How many loops are open around the innermost.
+    fn outer_count(&self) -> usize
+        ensures within { λ r. ⌜ r ≤ now (self .entry) .count ⌝ }
+        ensures is { λ r. ⌜ newest r (now (self .entry) .names) ≡ drop 1 (names (now (self .entry))) ⌝ }
+    {
+        self.count.saturating_sub(1)
     }
 
     fn has_name(&self, name: u16) -> bool
@@ -65,9 +73,7 @@ impl Drop for LoopGuard<'_> {
     fn drop(self)
         ensures { λ _. ⌜ names (now (self .exit .0)) ≡ drop 1 (names (now (self .entry .held))) ⌝ }
     {
-        if self.held.count > 0 {
-            self.held.count -= 1;
-        }
+        self.held.count = self.held.outer_count();
         let LoopGuard { held: _ } = self;
     }
 }

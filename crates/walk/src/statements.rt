@@ -5,23 +5,22 @@ ghost use Rattle.std.specs.Vec.{made};
 ghost use Rattle.table.specs.View.{view};
 ghost use Rattle.walk.specs.Bodies.{envOf};
 ghost use Rattle.walk.specs.Names.{names};
-ghost use Rattle.walk.specs.Walk.{stmtFrom, blockFrom, leaves, exits, topped, judged, beside, sameKind};
-use crate::arrive::arrive_act;
-use crate::arrive::arrive_block;
+ghost use Rattle.walk.specs.Walk.{exprFrom, condFrom, stmtAt, stmtFrom, blockFrom, leaves, exits};
+ghost use Rattle.table.specs.declared.shape.Statement.the-variants.{Loop as Repeat};
+use crate::arrive::arrive;
 use crate::arrive::format_kind;
-use crate::arrive::same_kind;
 use crate::conditions::cond;
 use crate::fault::CheckFault;
 use crate::found::Context;
-use crate::found::Found;
 use crate::found::Size;
 use crate::loops::Loops;
+use crate::measure::side_by_side;
 use crate::opens::LoopGuard;
 use crate::opens::push_loop;
-use crate::refer::function_called;
-use crate::values::arguments;
-use crate::values::expr;
+use crate::uses::one_value;
+use crate::uses::perform;
 use table::Kind;
+use table::Shape;
 use table::Statement;
 use table::Table;
 
@@ -58,29 +57,6 @@ fn exit_from(result: Option<Kind>, at: usize) -> Result<(Size, usize), CheckFaul
     }
 }
 
-// A node with one expression below it, of the kind that it asks for.
-fn one_value(kind: Kind, value: Found, next: usize, at: usize) -> Result<(Size, usize), CheckFault>
-    requires { ⌜ value .words < 65535 ⌝ }
-    ensures { λ r. ⌜ r ≡ judged at (sameKind kind (value .kind)) (topped value, next) ⌝ }
-{
-    if !same_kind(kind, value.kind) {
-        return Err(CheckFault::Child(at));
-    }
-    let height = value.height;
-    let words = value.words + 1;
-    Ok((Size { height, words }, next))
-}
-
-fn side_by_side(a: Size, b: Size) -> Size
-    requires { ⌜ a .words + b .words < 65536 ⌝ }
-    ensures { λ r. ⌜ r ≡ beside a b ⌝ }
-{
-    Size {
-        height: a.height.max(b.height),
-        words: a.words + b.words,
-    }
-}
-
 // A statement among the open loops: its height and words, and the next node's place.
 fn stmt(
     t: &Table,
@@ -93,7 +69,28 @@ fn stmt(
     ensures kept { λ _. ⌜ names (now (loops .exit)) ≡ names (now (loops .entry)) ⌝ }
     ensures bound { λ r. ⌜ made r (λ p. (at < p .1) × (p .0 .height + at ≤ p .1) × (p .0 .words + at ≤ p .1) × (p .1 ≤ now (t .entry) .nodes)) ⌝ }
 {
-    match arrive_act(t, at, left)? {
+    match arrive(t, at, left) {
+        Ok(Shape::Statement(shape)) => stmt_of(t, cx, shape, at, left - 1, loops),
+        Ok(_) => Err(CheckFault::Sort(at)),
+        Err(fault) => Err(fault),
+    }
+}
+
+// The statement of that shape at `at`, with `left` levels of nesting left for its children.
+fn stmt_of(
+    t: &Table,
+    cx: &Context,
+    shape: Statement,
+    at: usize,
+    left: u8,
+    loops: &mut Loops,
+) -> Result<(Size, usize), CheckFault>
+    requires { ⌜ at < now t .nodes ⌝ }
+    ensures is { λ r. ⌜ r ≡ stmtAt (envOf (view (now (t .entry))) (now (cx .entry))) (exprFrom (view (now (t .entry))) (envOf (view (now (t .entry))) (now (cx .entry))) left) (condFrom (view (now (t .entry))) (envOf (view (now (t .entry))) (now (cx .entry))) left) (blockFrom (view (now (t .entry))) (envOf (view (now (t .entry))) (now (cx .entry))) left) (names (now (loops .entry))) at shape ⌝ }
+    ensures kept { λ _. ⌜ names (now (loops .exit)) ≡ names (now (loops .entry)) ⌝ }
+    ensures bound { λ r. ⌜ made r (λ p. (at < p .1) × (p .0 .height + at ≤ p .1) × (p .0 .words + at ≤ p .1) × (p .1 ≤ now (t .entry) .nodes)) ⌝ }
+{
+    match shape {
         Statement::Skip => {
             let size = Size {
                 height: 0,
@@ -103,60 +100,60 @@ fn stmt(
         }
         Statement::Assign(scope, slot) => {
             let kind = cx.variable_kind(scope, slot, at)?;
-            let (value, next) = expr(t, cx, at + 1, left - 1)?;
-            one_value(kind, value, next, at)
+            one_value(t, cx, kind, at, left)
         }
-        Statement::Perform(f) => {
-            let callee = function_called(t, f, at)?;
-            if callee.result.is_some() {
-                return Err(CheckFault::Function(at));
-            }
-            let (taken, next) = arguments(t, cx, &callee, at + 1, left - 1)?;
-            if !taken.fit {
-                return Err(CheckFault::Child(at));
-            }
-            let height = taken.size.height;
-            let words = taken.size.words + 1;
-            Ok((Size { height, words }, next))
-        }
+        Statement::Perform(f) => perform(t, cx, f, at, left),
         Statement::If => {
-            let (c, middle) = cond(t, cx, at + 1, left - 1)?;
-            let (b, next) = block(t, cx, middle, left - 1, loops)?;
+            let (c, middle) = cond(t, cx, at + 1, left)?;
+            let (b, next) = block(t, cx, middle, left, loops)?;
             Ok((side_by_side(c, b), next))
         }
         Statement::IfElse => {
-            let (c, middle) = cond(t, cx, at + 1, left - 1)?;
-            let (b, behind) = block(t, cx, middle, left - 1, loops)?;
-            let (d, next) = block(t, cx, behind, left - 1, loops)?;
+            let (c, middle) = cond(t, cx, at + 1, left)?;
+            let (b, behind) = block(t, cx, middle, left, loops)?;
+            let (d, next) = block(t, cx, behind, left, loops)?;
             let height = c.height.max(b.height.max(d.height));
             let words = c.words + b.words + d.words + 1;
             Ok((Size { height, words }, next))
         }
-        Statement::Loop(name) => {
-            if loops.open_count() >= 16 {
-                return Err(CheckFault::Loop(at));
-            }
-            push_loop(loops, name);
-            let guard = LoopGuard { held: loops };
-            let (b, next) = block(t, cx, at + 1, left - 1, guard.held)?;
-            let height = b.height;
-            let words = b.words + 1;
-            Ok((Size { height, words }, next))
-        }
+        Statement::Loop(name) => repeat(t, cx, name, at, left, loops),
         Statement::Break(name) => leave_loop(loops, name, at),
         Statement::Continue(name) => leave_loop(loops, name, at),
         Statement::Exit => exit_from(cx.own.result, at),
-        Statement::Return => {
-            let kind = cx.own.result.ok_or(CheckFault::Exit(at))?;
-            let (value, next) = expr(t, cx, at + 1, left - 1)?;
-            one_value(kind, value, next, at)
-        }
+        Statement::Return => match cx.own.result {
+            Some(kind) => one_value(t, cx, kind, at, left),
+            None => Err(CheckFault::Exit(at)),
+        },
         Statement::Write(format) => {
             let kind = format_kind(format);
-            let (value, next) = expr(t, cx, at + 1, left - 1)?;
-            one_value(kind, value, next, at)
+            one_value(t, cx, kind, at, left)
         }
     }
+}
+
+// A loop: its name is open for its block alone.
+fn repeat(
+    t: &Table,
+    cx: &Context,
+    name: u16,
+    at: usize,
+    left: u8,
+    loops: &mut Loops,
+) -> Result<(Size, usize), CheckFault>
+    requires { ⌜ at < now t .nodes ⌝ }
+    ensures is { λ r. ⌜ r ≡ stmtAt (envOf (view (now (t .entry))) (now (cx .entry))) (exprFrom (view (now (t .entry))) (envOf (view (now (t .entry))) (now (cx .entry))) left) (condFrom (view (now (t .entry))) (envOf (view (now (t .entry))) (now (cx .entry))) left) (blockFrom (view (now (t .entry))) (envOf (view (now (t .entry))) (now (cx .entry))) left) (names (now (loops .entry))) at (Repeat name) ⌝ }
+    ensures kept { λ _. ⌜ names (now (loops .exit)) ≡ names (now (loops .entry)) ⌝ }
+    ensures bound { λ r. ⌜ made r (λ p. (at < p .1) × (p .0 .height + at ≤ p .1) × (p .0 .words + at ≤ p .1) × (p .1 ≤ now (t .entry) .nodes)) ⌝ }
+{
+    if loops.open_count() >= 16 {
+        return Err(CheckFault::Loop(at));
+    }
+    push_loop(loops, name);
+    let guard = LoopGuard { held: loops };
+    let (b, next) = block(t, cx, at + 1, left, guard.held)?;
+    let height = b.height;
+    let words = b.words + 1;
+    Ok((Size { height, words }, next))
 }
 
 // A block among the open loops: its height and words, and the next node's place.
@@ -171,7 +168,9 @@ pub(crate) fn block(
     ensures kept { λ _. ⌜ names (now (loops .exit)) ≡ names (now (loops .entry)) ⌝ }
     ensures bound { λ r. ⌜ made r (λ p. (at < p .1) × (p .0 .height + at + 1 ≤ p .1) × (p .0 .words + at + 1 ≤ p .1) × (p .1 ≤ now (t .entry) .nodes)) ⌝ }
 {
-    let count = arrive_block(t, at, left)?;
+    let Shape::Block(count) = arrive(t, at, left)? else {
+        return Err(CheckFault::Sort(at));
+    };
     let mut size = Size {
         height: 0,
         words: 0,

@@ -1,51 +1,29 @@
-// The walk over expressions and conditions.
+// The walk over expressions.
 ghost use mathlib.Core.Path.{_≡_};
-ghost use Prim.Native.Nat.{_+_, _-_, _<_, _≤_};
+ghost use Prim.Native.Nat.{_+_, _<_, _≤_};
 ghost use Rattle.std.specs.Vec.{made};
 ghost use Rattle.table.specs.View.{view};
 ghost use Rattle.language.specs.Rules.{parameterKinds};
 ghost use Rattle.walk.specs.Bodies.{envOf, signatureOf};
-ghost use Rattle.walk.specs.Walk.{exprFrom, argsFrom, noArguments, found, added};
-use crate::arrive::arrive_value;
+ghost use Rattle.walk.specs.Walk.{exprAt, exprFrom, argsFrom, noArguments};
+use crate::arrive::arrive;
 use crate::arrive::format_kind;
-use crate::arrive::same_kind;
-use crate::arrive::takes_kind;
-use crate::arrive::unary_kinds;
 use crate::fault::CheckFault;
 use crate::found::Arguments;
 use crate::found::Context;
 use crate::found::Found;
 use crate::found::Size;
+use crate::measure::add_argument;
+use crate::measure::leaf;
+use crate::measure::operation_on_one;
+use crate::measure::operation_on_two;
+use crate::measure::value_of_call;
 use crate::refer::function_called;
 use crate::refer::parameter_kind;
 use table::Expression;
 use table::Function;
-use table::Kind;
+use table::Shape;
 use table::Table;
-
-fn leaf(kind: Kind) -> Found
-    ensures { λ r. ⌜ r ≡ found kind 1 1 ⌝ }
-{
-    Found {
-        kind,
-        height: 1,
-        words: 1,
-    }
-}
-
-// Argument i of a call, for a parameter of that kind, behind the arguments before it.
-fn add_argument(taken: Arguments, i: u16, kind: Kind, argument: Found) -> Arguments
-    requires { ⌜ i + argument .height < 65536 ⌝ ∗ ⌜ taken .size .words + argument .words < 65536 ⌝ }
-    ensures { λ r. ⌜ r ≡ added taken i kind argument ⌝ }
-{
-    Arguments {
-        fit: taken.fit && same_kind(kind, argument.kind),
-        size: Size {
-            height: taken.size.height.max(i + argument.height),
-            words: taken.size.words + argument.words,
-        },
-    }
-}
 
 // An expression: its kind, height and words, and the next node's place.
 pub(crate) fn expr(
@@ -57,64 +35,47 @@ pub(crate) fn expr(
     ensures is { λ r. ⌜ r ≡ exprFrom (view (now (t .entry))) (envOf (view (now (t .entry))) (now (cx .entry))) left at ⌝ }
     ensures bound { λ r. ⌜ made r (λ p. (at < p .1) × (p .0 .height + at ≤ p .1) × (p .0 .words + at ≤ p .1) × (p .1 ≤ now (t .entry) .nodes)) ⌝ }
 {
-    match arrive_value(t, at, left)? {
+    match arrive(t, at, left) {
+        Ok(Shape::Expression(shape)) => expr_of(t, cx, shape, at, left - 1),
+        Ok(_) => Err(CheckFault::Sort(at)),
+        Err(fault) => Err(fault),
+    }
+}
+
+// The expression of that shape at `at`, with `left` levels of nesting left for its children.
+fn expr_of(
+    t: &Table,
+    cx: &Context,
+    shape: Expression,
+    at: usize,
+    left: u8,
+) -> Result<(Found, usize), CheckFault>
+    requires { ⌜ at < now t .nodes ⌝ }
+    ensures is { λ r. ⌜ r ≡ exprAt (envOf (view (now (t .entry))) (now (cx .entry))) (exprFrom (view (now (t .entry))) (envOf (view (now (t .entry))) (now (cx .entry))) left) at shape ⌝ }
+    ensures bound { λ r. ⌜ made r (λ p. (at < p .1) × (p .0 .height + at ≤ p .1) × (p .0 .words + at ≤ p .1) × (p .1 ≤ now (t .entry) .nodes)) ⌝ }
+{
+    match shape {
         Expression::Constant(kind, _) => Ok((leaf(kind), at + 1)),
         Expression::Variable(scope, slot) => {
             let kind = cx.variable_kind(scope, slot, at)?;
             Ok((leaf(kind), at + 1))
         }
         Expression::Unary(operator) => {
-            let (operand, kind, words) = unary_kinds(operator);
-            let (a, next) = expr(t, cx, at + 1, left - 1)?;
-            if !same_kind(operand, a.kind) {
-                return Err(CheckFault::Child(at));
-            }
-            let words = a.words + words;
-            let height = a.height;
-            Ok((
-                Found {
-                    kind,
-                    height,
-                    words,
-                },
-                next,
-            ))
+            let (a, next) = expr(t, cx, at + 1, left)?;
+            operation_on_one(operator, a, next, at)
         }
         Expression::Binary(operator) => {
-            let (a, middle) = expr(t, cx, at + 1, left - 1)?;
-            let (b, next) = expr(t, cx, middle, left - 1)?;
-            if !(same_kind(a.kind, b.kind) && takes_kind(operator, a.kind)) {
-                return Err(CheckFault::Child(at));
-            }
-            let kind = a.kind;
-            let height = a.height.max(1 + b.height);
-            let words = a.words + b.words + 1;
-            Ok((
-                Found {
-                    kind,
-                    height,
-                    words,
-                },
-                next,
-            ))
+            let (a, middle) = expr(t, cx, at + 1, left)?;
+            let (b, next) = expr(t, cx, middle, left)?;
+            operation_on_two(operator, a, b, next, at)
         }
         Expression::Call(f) => {
             let callee = function_called(t, f, at)?;
-            let kind = callee.result.ok_or(CheckFault::Function(at))?;
-            let (taken, next) = arguments(t, cx, &callee, at + 1, left - 1)?;
-            if !taken.fit {
-                return Err(CheckFault::Child(at));
-            }
-            let height = taken.size.height.max(1);
-            let words = taken.size.words + 1;
-            Ok((
-                Found {
-                    kind,
-                    height,
-                    words,
-                },
-                next,
-            ))
+            let Some(kind) = callee.result else {
+                return Err(CheckFault::Function(at));
+            };
+            let (taken, next) = arguments(t, cx, &callee, at + 1, left)?;
+            value_of_call(kind, taken, next, at)
         }
         Expression::Read(format) => Ok((leaf(format_kind(format)), at + 1)),
     }

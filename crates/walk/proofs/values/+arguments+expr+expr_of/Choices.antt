@@ -5,13 +5,16 @@ use Rattle.table.specs.View.{view}
 use Rattle.language.specs.Rules.{parameterKinds}
 use Rattle.walk.specs.Bodies.{envOf, signatureOf}
 use Rattle.walk.specs.Walk.{exprFrom, argsFrom, noArguments}
-use Rattle.walk.proofs.values.+arguments+expr.Given as given
+use Rattle.walk.proofs.values.+arguments+expr+expr_of.Given as given
 
 abbrev pub μ-arguments : given.MeasureT-arguments
-μ-arguments l = 2 * l .left + 1
+μ-arguments l = 3 * l .left + 1
 
 abbrev pub μ-expr : given.MeasureT-expr
-μ-expr l = 2 * l .left
+μ-expr l = 3 * l .left
+
+abbrev pub μ-expr-of : given.MeasureT-expr-of
+μ-expr-of l = 3 * l .left + 2
 
 abbrev pub Inv-arguments-loop-kind : given.InvT-arguments-loop-kind
 Inv-arguments-loop-kind l =

@@ -15,7 +15,7 @@ use Rattle.walk.specs.Walk.{exprFrom, argsFrom, added}
 use Rattle.walk.specs.declared.found.Context.{Context}
 use Rattle.walk.specs.declared.found.Arguments.{Arguments}
 use Rattle.walk.proofs.Steps.{expr-step, args-step, args-end, nth-within}
-use Rattle.walk.proofs.values.+arguments+expr.Needs as need
+use Rattle.walk.proofs.values.+arguments+expr+expr_of.Needs as need
 
 -- one more argument of the kinds that the callee asks for
 next-argument : (cx : Context) (f : Function) (v : View) (k n : ℕ) (q : Kind) (a : Arguments) (j : ℕ) →
@@ -42,53 +42,11 @@ arguments-loop-kind-again t c =
 pub arguments-returns : need.arguments-returns
 arguments-returns t c = search (needs, args-end)
 
-pub expr-returns-in-Break-kind : need.expr-returns-in-Break-kind
-expr-returns-in-Break-kind t c = search (needs, expr-step)
+pub expr-returns-in-Ok-Expression : need.expr-returns-in-Ok-Expression
+expr-returns-in-Ok-Expression t c = search (needs, expr-step)
 
-pub expr-returns-in-Break-kind-2 : need.expr-returns-in-Break-kind-2
-expr-returns-in-Break-kind-2 t c = search (needs, expr-step)
+pub expr-returns-in-Ok : need.expr-returns-in-Ok
+expr-returns-in-Ok t c = search (needs, expr-step)
 
-pub expr-returns-in-Break-a : need.expr-returns-in-Break-a
-expr-returns-in-Break-a t c = search (needs, expr-step)
-
-pub expr-returns-then-not-same-kind : need.expr-returns-then-not-same-kind
-expr-returns-then-not-same-kind t c = search (needs, expr-step)
-
-pub expr-returns-in-Break-a-2 : need.expr-returns-in-Break-a-2
-expr-returns-in-Break-a-2 t c = search (needs, expr-step)
-
-pub expr-returns-in-Break-b : need.expr-returns-in-Break-b
-expr-returns-in-Break-b t c = search (needs, expr-step)
-
-pub expr-returns-then-not-takes-kind : need.expr-returns-then-not-takes-kind
-expr-returns-then-not-takes-kind t c = search (needs, expr-step)
-
-pub expr-returns-in-Break-callee : need.expr-returns-in-Break-callee
-expr-returns-in-Break-callee t c = search (needs, expr-step)
-
-pub expr-returns-in-Break-kind-3 : need.expr-returns-in-Break-kind-3
-expr-returns-in-Break-kind-3 t c = search (needs, expr-step)
-
-pub expr-returns-in-Break-taken : need.expr-returns-in-Break-taken
-expr-returns-in-Break-taken t c = search (needs, expr-step)
-
-pub expr-returns-then-not-taken : need.expr-returns-then-not-taken
-expr-returns-then-not-taken t c = search (needs, expr-step)
-
-pub expr-returns-in-Constant : need.expr-returns-in-Constant
-expr-returns-in-Constant t c = search (needs, expr-step)
-
-pub expr-returns-in-Continue-kind-2 : need.expr-returns-in-Continue-kind-2
-expr-returns-in-Continue-kind-2 t c = search (needs, expr-step)
-
-pub expr-returns-else-not-same-kind : need.expr-returns-else-not-same-kind
-expr-returns-else-not-same-kind t c = search (needs, expr-step)
-
-pub expr-returns-else-not-takes-kind : need.expr-returns-else-not-takes-kind
-expr-returns-else-not-takes-kind t c = search (needs, expr-step)
-
-pub expr-returns-else-not-taken : need.expr-returns-else-not-taken
-expr-returns-else-not-taken t c = search (needs, expr-step)
-
-pub expr-returns-in-Read : need.expr-returns-in-Read
-expr-returns-in-Read t c = search (needs, expr-step)
+pub expr-returns-in-Err : need.expr-returns-in-Err
+expr-returns-in-Err t c = search (needs, expr-step)
