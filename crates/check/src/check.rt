@@ -16,7 +16,7 @@ fn below_256(b: u8)
 
 // Each element of a slice of bytes is below 256. What a slice holds is known only where it is read, so this reads
 // it through; nothing comes of it, so that the compiler is free to leave it out.
-fn read_through(bytes: &[u8])
+pub(crate) fn read_through(bytes: &[u8])
     ensures { λ _. ⌜ Bytes (now (bytes .entry)) ⌝ }
 {
     for b in bytes {
