@@ -3,8 +3,9 @@ ghost use mathlib.Core.Path.{_≡_};
 ghost use mathlib.Core.Bool.{cond};
 ghost use mathlib.Core.List.{[]};
 ghost use Prim.Native.Nat.{_-_, _<_, _≤_};
+ghost use Rattle.std.specs.Orderings.{When};
 ghost use Rattle.std.specs.Options.{Cases as BySome};
-ghost use Rattle.machine.specs.View.{actOf, seen, state, view};
+ghost use Rattle.machine.specs.View.{State, actOf, seen, state, view};
 ghost use Rattle.machine.specs.Acts.{pushed, dropped, actBy};
 ghost use Rattle.machine.specs.States.{concluded, settled, fromMain, toMain, hasResult, entryAt, called, left, returned, toRead, toSend, run, fetched, mainEntry, advanced};
 use crate::plan::Cause;
@@ -273,27 +274,31 @@ impl Core {
         }
     }
 
-    fn begin(&mut self, code: &[u64]) -> Plan
-        requires { ⌜ now self .depth .n ≡ 0 ⌝ }
-        ensures { λ r. ⌜ (view (now (self .exit)), r) ≡ advanced (now (code .entry)) (view (now (self .entry))) ⌝ }
+    // Sees to it that main is open; answers whether it is.
+    fn start(&mut self, code: &[u64]) -> bool
+        ensures { λ r. ⌜ When r ((fetched (now (code .entry)) (view (now (self .exit))) ≡ advanced (now (code .entry)) (view (now (self .entry)))) × (0 < now (self .exit) .depth .n))
+            (_≡_ {A = State × Plan} (view (now (self .exit)), Plan.Fault Cause.BadCode 0) (advanced (now (code .entry)) (view (now (self .entry))))) ⌝ }
     {
+        if self.depth.n > 0 {
+            return true;
+        }
         let Some(found) = main_entry(code) else {
-            return Plan::Fault(Cause::BadCode, 0);
+            return false;
         };
         self.activations[0] = open(found, [0; 64], 0);
         self.depth = Depth { n: 1 };
         self.at = usize::from(found.address);
-        self.fetch(code)
+        true
     }
 
     // A step as far as no line is needed; the first one opens main.
     pub fn advance(&mut self, code: &[u64]) -> Plan
         ensures { λ r. ⌜ (view (now (self .exit)), r) ≡ advanced (now (code .entry)) (view (now (self .entry))) ⌝ }
     {
-        if self.depth.n == 0 {
-            self.begin(code)
-        } else {
+        if self.start(code) {
             self.fetch(code)
+        } else {
+            Plan::Fault(Cause::BadCode, 0)
         }
     }
 

@@ -36,7 +36,7 @@ longC : (c : Cond) (w : Bool) (t h : ℕ) → length (codeC c w t h) ≡ wordsC 
 longC (compare p c k a b) w t h = simp length-append (omega (arith, longE a, longE b))
 longC (negate p c) w t h = longC c (flip w) t h
 longC (join p j c d) w t h =
-    simp length-append (omega (arith, longC c (decides j) (leftTarget j w t (h + wordsC c + wordsC d)) h, longC d w t (h + wordsC c)))
+    simp length-append (omega (arith, longC c (decides j) (leftTarget j w t (h + wordsC (join p j c d))) h, longC d w t (h + wordsC c)))
 longC (holds p a) w t h = simp length-append (omega (arith, longE a))
 
 mutual
@@ -44,10 +44,10 @@ mutual
   longS (skip p) ts h = refl
   longS (assign p s x k a) ts h = simp length-append (omega (arith, longE a))
   longS (perform p f xs) ts h = simp length-append (omega (arith, longA xs))
-  longS (if p c b) ts h = simp length-append (omega (arith, longC c false (h + wordsC c + wordsB b) h, longB b ts (h + wordsC c)))
+  longS (if p c b) ts h = simp length-append (omega (arith, longC c false (h + wordsS (if p c b)) h, longB b ts (h + wordsC c)))
   longS (ifElse p c b d) ts h =
       simp length-append (omega (arith, longC c false (h + wordsC c + wordsB b + 1) h, longB b ts (h + wordsC c), longB d ts (h + wordsC c + wordsB b + 1)))
-  longS (loop p m b) ts h = simp length-append (omega (arith, longB b (record { name = m; start = h; end = h + wordsB b + 1 } ∷ ts) h))
+  longS (loop p m b) ts h = simp length-append (omega (arith, longB b (record { name = m; start = h; end = h + wordsS (loop p m b) } ∷ ts) h))
   longS (break p m) ts h = refl
   longS (continue p m) ts h = refl
   longS (exit p) ts h = refl

@@ -59,7 +59,7 @@ leftTarget Or w t b = cond w t b
 abbrev pub codeC : Cond → Bool → ℕ → ℕ → List ℕ
 codeC (compare p c k a b) w t h = codeE a ++ codeE b ++ wordOf (Compare c k w t) p ∷ []
 codeC (negate p c) w t h = codeC c (flip w) t h
-codeC (join p j c d) w t h = codeC c (decides j) (leftTarget j w t (h + wordsC c + wordsC d)) h ++ codeC d w t (h + wordsC c)
+codeC (join p j c d) w t h = codeC c (decides j) (leftTarget j w t (h + wordsC (join p j c d))) h ++ codeC d w t (h + wordsC c)
 codeC (holds p a) w t h = codeE a ++ wordOf (Holds w t) p ∷ []
 
 -- the innermost open loop of that name, 0 asking for the innermost; the innermost stands first
@@ -78,12 +78,12 @@ abbrev mutual
   codeS (skip p) ts h = []
   codeS (assign p s x k a) ts h = codeE a ++ wordOf (Assign s x) p ∷ []
   codeS (perform p f xs) ts h = codeA xs ++ wordOf (Perform f) p ∷ []
-  codeS (if p c b) ts h = codeC c false (h + wordsC c + wordsB b) h ++ codeB b ts (h + wordsC c)
+  codeS (if p c b) ts h = codeC c false (h + wordsS (if p c b)) h ++ codeB b ts (h + wordsC c)
   codeS (ifElse p c b d) ts h =
       codeC c false (h + wordsC c + wordsB b + 1) h ++ codeB b ts (h + wordsC c)
-      ++ wordOf (Goto Else (h + wordsC c + wordsB b + 1 + wordsB d)) p ∷ []
+      ++ (wordOf (Goto Else (h + wordsS (ifElse p c b d))) p ∷ [])
       ++ codeB d ts (h + wordsC c + wordsB b + 1)
-  codeS (loop p m b) ts h = codeB b (record { name = m; start = h; end = h + wordsB b + 1 } ∷ ts) h ++ wordOf (Goto Again h) p ∷ []
+  codeS (loop p m b) ts h = codeB b (record { name = m; start = h; end = h + wordsS (loop p m b) } ∷ ts) h ++ wordOf (Goto Again h) p ∷ []
   codeS (break p m) ts h = wordOf (Goto Leave (targetOf m ts .end)) p ∷ []
   codeS (continue p m) ts h = wordOf (Goto Restart (targetOf m ts .start)) p ∷ []
   codeS (exit p) ts h = wordOf Exit p ∷ []

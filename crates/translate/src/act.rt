@@ -50,17 +50,23 @@ fn value_then(
     (end, next)
 }
 
-// The addresses of the second block and of the end of an if with else, its condition at a node.
-fn ways(t: &Table, cx: &Context, at: u16, left: u8, here: usize) -> (u32, u32)
-    requires near { ⌜ here + (wordsC (condAt (view (now t)) (now cx) left at .0) + wordsB (blockAt (view (now t)) (now cx) left (condAt (view (now t)) (now cx) left at .1) .0) + wordsB (blockAt (view (now t)) (now cx) left (blockAt (view (now t)) (now cx) left (condAt (view (now t)) (now cx) left at .1) .1) .0) + 1) ≤ 65535 ⌝ }
-    ensures other { λ r. ⌜ r .0 ≡ here + wordsC (condAt (view (now (t .entry))) (now (cx .entry)) left at .0) + wordsB (blockAt (view (now (t .entry))) (now (cx .entry)) left (condAt (view (now (t .entry))) (now (cx .entry)) left at .1) .0) + 1 ⌝ }
-    ensures end { λ r. ⌜ r .1 ≡ r .0 + wordsB (blockAt (view (now (t .entry))) (now (cx .entry)) left (blockAt (view (now (t .entry))) (now (cx .entry)) left (condAt (view (now (t .entry))) (now (cx .entry)) left at .1) .1) .0) ⌝ }
+// The address behind the statement at a node, whose words stand from `here` on.
+fn behind(t: &Table, cx: &Context, at: u16, left: u8, here: usize) -> u32
+    requires near { ⌜ here + wordsS (stmtAt (view (now t)) (now cx) left at .0) ≤ 65535 ⌝ }
+    ensures { λ r. ⌜ r ≡ here + wordsS (stmtAt (view (now (t .entry))) (now (cx .entry)) left at .0) ⌝ }
+{
+    let (words, _) = act_size(t, cx, at, left);
+    (here + words) as u32
+}
+
+// The address of an if's second block. The condition is at a node, and its words stand from `here` on.
+fn other_block(t: &Table, cx: &Context, at: u16, left: u8, here: usize) -> u32
+    requires near { ⌜ here + (wordsC (condAt (view (now t)) (now cx) left at .0) + wordsB (blockAt (view (now t)) (now cx) left (condAt (view (now t)) (now cx) left at .1) .0) + 1) ≤ 65535 ⌝ }
+    ensures { λ r. ⌜ r ≡ here + wordsC (condAt (view (now (t .entry))) (now (cx .entry)) left at .0) + wordsB (blockAt (view (now (t .entry))) (now (cx .entry)) left (condAt (view (now (t .entry))) (now (cx .entry)) left at .1) .0) + 1 ⌝ }
 {
     let (test, body) = test_size(t, cx, at, left);
-    let (first, other) = block_size(t, cx, body, left);
-    let (last, _) = block_size(t, cx, other, left);
-    let behind = here + test + first + 1;
-    (behind as u32, (behind + last) as u32)
+    let (first, _) = block_size(t, cx, body, left);
+    (here + test + first + 1) as u32
 }
 
 // Writes the words of the statement at a node from `here` on: the place behind them, and the next node's.
@@ -98,14 +104,14 @@ pub(crate) fn act(
             (end, next)
         }
         Statement::If => {
-            let (words, _) = act_size(t, cx, at, left);
-            let behind = (here + words) as u32;
+            let behind = behind(t, cx, at, left, here);
             let (middle, body) = jump_if_false(t, cx, at + 1, left - 1, behind, code, here);
             let (end, next) = block(t, cx, body, left - 1, targets, code, middle);
             (end, next)
         }
         Statement::IfElse => {
-            let (other, behind) = ways(t, cx, at + 1, left - 1, here);
+            let other = other_block(t, cx, at + 1, left - 1, here);
+            let behind = behind(t, cx, at, left, here);
             let (middle, body) = jump_if_false(t, cx, at + 1, left - 1, other, code, here);
             let (first, second) = block(t, cx, body, left - 1, targets, code, middle);
             let start = put(code, first, Instruction::Jump(Jump::Else, behind), at);
@@ -113,9 +119,8 @@ pub(crate) fn act(
             (end, next)
         }
         Statement::Loop(name) => {
-            let (words, _) = act_size(t, cx, at, left);
             let start = here as u32;
-            let end = (here + words) as u32;
+            let end = behind(t, cx, at, left, here);
             targets.open(Target { name, start, end });
             let (behind, next) = block(t, cx, at + 1, left - 1, targets, code, here);
             targets.close();

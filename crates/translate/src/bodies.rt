@@ -58,6 +58,19 @@ fn body(t: &Table, cx: &Context, at: u16, code: &mut [u64], here: usize) -> (usi
     (end, next)
 }
 
+// The entry of a function whose first word has that address.
+fn entry_of(own: &Function, address: usize) -> Entry
+    requires { ⌜ address ≤ 65535 ⌝ }
+    ensures { λ r. ⌜ r ≡ record { result = now (own .entry) .result; parameters = now (own .entry) .parameters; variables = now (own .entry) .variables; address = address } ⌝ }
+{
+    Entry {
+        result: own.result,
+        parameters: own.parameters,
+        variables: own.variables,
+        address: address as u16,
+    }
+}
+
 fn put_entry(code: &mut [u64], here: usize, entry: Entry)
     requires { ⌜ here < length (now code) ⌝ }
     ensures { λ _. ⌜ Wrote here (here + 1) (now (code .entry)) (now (code .exit)) (entryWord entry ∷ []) ⌝ }
@@ -77,12 +90,7 @@ pub(crate) fn entries(t: &Table, f: usize, at: u16, address: usize, code: &mut [
     }
     let cx = context(t, f);
     let (words, next) = body_size(t, &cx, at);
-    let entry = Entry {
-        result: cx.own.result,
-        parameters: cx.own.parameters,
-        variables: cx.own.variables,
-        address: address as u16,
-    };
+    let entry = entry_of(&cx.own, address);
     put_entry(code, f, entry);
     entries(t, f + 1, next, address + words + 1, code);
 }

@@ -1,5 +1,7 @@
 // The translation of a program.
 ghost use mathlib.Core.Path.{_≡_};
+ghost use Prim.Native.Nat.{_<_, _≤_};
+ghost use Rattle.std.specs.Results.{Cases};
 ghost use Rattle.check.specs.Held.{held};
 ghost use Rattle.translate.specs.Faults.{told};
 ghost use Rattle.translate.specs.Translated.{Translated};
@@ -20,14 +22,24 @@ impl TranslateFault {
     }
 }
 
+// Whether a memory of that length has room for so many words.
+fn enough(memory: usize, words: usize) -> Result<(), TranslateFault>
+    ensures { λ r. ⌜ Cases r (λ _. words ≤ memory) (λ e. (memory < words) × (told e ≡ (30, words))) ⌝ }
+{
+    if memory < words {
+        return Err(TranslateFault::TooShort(words));
+    }
+    Ok(())
+}
+
 // Writes the code of the program that is held, and answers how many words it has. If the memory is too short,
 // nothing is written. Words past the code stay as they were.
 pub fn translate(program: &Program, code: &mut [u64]) -> Result<usize, TranslateFault>
     ensures { λ r. ⌜ Translated (held (now (program .entry))) (now (code .entry)) (now (code .exit)) r ⌝ }
 {
     let counts = program.counts();
-    if code.len() < counts.words {
-        return Err(TranslateFault::TooShort(counts.words));
+    if let Err(fault) = enough(code.len(), counts.words) {
+        return Err(fault);
     }
     let t = Table {
         bytes: program.table(),
