@@ -30,36 +30,36 @@ use Rattle.language.specs.Ranges.{IsOf, Fitting, KindsKept, ValuesInRange}
 use Rattle.language.proofs.Values.{of-constant, of-zero, of-unary, IfOf, of-binary, ReadOf, of-read}
 
 -- The kinds of the callers' variables, row by row, and of main's, which stand last.
-abbrev RowsFit : List (List Kind) → List (List ℤ) → Type 0
+abbrev pub RowsFit : List (List Kind) → List (List ℤ) → Type 0
 RowsFit [] [] = Unit {0}
 RowsFit [] (r ∷ rs) = ⊥
 RowsFit (ks ∷ kss) [] = ⊥
 RowsFit (ks ∷ kss) (r ∷ rs) = Fitting ks r × RowsFit kss rs
 
-abbrev lastRow : List Kind → List (List Kind) → List Kind
+abbrev pub lastRow : List Kind → List (List Kind) → List Kind
 lastRow ks [] = ks
 lastRow ks (r ∷ rs) = lastRow r rs
 
-record Shaped (ks : List Kind) (kss : List (List Kind)) (s : State) : Type 0 where
-  own : Fitting ks (s .own)
-  callers : RowsFit kss (s .callers)
-  bytes : All (λ b. b < 256) (s .waiting)
+pub record Shaped (ks : List Kind) (kss : List (List Kind)) (s : State) : Type 0 where
+  pub own : Fitting ks (s .own)
+  pub callers : RowsFit kss (s .callers)
+  pub bytes : All (λ b. b < 256) (s .waiting)
 
-get-fits : (ks : List Kind) (vs : List ℤ) (x : ℕ) (k : Kind) → Fitting ks vs → nth ks x ≡ Some k → IsOf k (getD vs x (pos 0))
+pub get-fits : (ks : List Kind) (vs : List ℤ) (x : ℕ) (k : Kind) → Fitting ks vs → nth ks x ≡ Some k → IsOf k (getD vs x (pos 0))
 get-fits [] [] x k h e = of-zero k
 get-fits [] (v ∷ vs) x k h e = absurd h
 get-fits (c ∷ ks) [] x k h e = absurd h
 get-fits (c ∷ ks) (v ∷ vs) zero k h e = let d : c ≡ k = cc in rw d at (h .0)
 get-fits (c ∷ ks) (v ∷ vs) (suc x) k h e = get-fits ks vs x k (h .1) e
 
-set-fits : (ks : List Kind) (vs : List ℤ) (x : ℕ) (k : Kind) (v : ℤ) → Fitting ks vs → nth ks x ≡ Some k → IsOf k v → Fitting ks (set vs x v)
+pub set-fits : (ks : List Kind) (vs : List ℤ) (x : ℕ) (k : Kind) (v : ℤ) → Fitting ks vs → nth ks x ≡ Some k → IsOf k v → Fitting ks (set vs x v)
 set-fits [] [] x k v h e w = tt
 set-fits [] (u ∷ vs) x k v h e w = absurd h
 set-fits (c ∷ ks) [] x k v h e w = absurd h
 set-fits (c ∷ ks) (u ∷ vs) zero k v h e w = let d : k ≡ c = cc in (rw d at w, h .1)
 set-fits (c ∷ ks) (u ∷ vs) (suc x) k v h e w = (h .0, set-fits ks vs x k v (h .1) e w)
 
-last-fits : (ks : List Kind) (kss : List (List Kind)) (r : List ℤ) (rs : List (List ℤ)) → Fitting ks r → RowsFit kss rs → Fitting (lastRow ks kss) (lastOf r rs)
+pub last-fits : (ks : List Kind) (kss : List (List Kind)) (r : List ℤ) (rs : List (List ℤ)) → Fitting ks r → RowsFit kss rs → Fitting (lastRow ks kss) (lastOf r rs)
 last-fits ks [] r [] h g = h
 last-fits ks [] r (q ∷ rs) h g = absurd g
 last-fits ks (c ∷ kss) r [] h g = absurd g
@@ -71,13 +71,13 @@ set-last-fits ks [] r (q ∷ rs) x k v h g e w = absurd g
 set-last-fits ks (c ∷ kss) r [] x k v h g e w = absurd g
 set-last-fits ks (c ∷ kss) r (q ∷ rs) x k v h g e w = (h, set-last-fits c kss q rs x k v (g .0) (g .1) e w)
 
-set-main-fits : (mk ks : List Kind) (kss : List (List Kind)) (rs : List (List ℤ)) (x : ℕ) (k : Kind) (v : ℤ) → lastRow ks kss ≡ mk → RowsFit kss rs → nth mk x ≡ Some k → IsOf k v → RowsFit kss (setMain rs x v)
+pub set-main-fits : (mk ks : List Kind) (kss : List (List Kind)) (rs : List (List ℤ)) (x : ℕ) (k : Kind) (v : ℤ) → lastRow ks kss ≡ mk → RowsFit kss rs → nth mk x ≡ Some k → IsOf k v → RowsFit kss (setMain rs x v)
 set-main-fits mk ks [] [] x k v l g e w = tt
 set-main-fits mk ks [] (q ∷ rs) x k v l g e w = absurd g
 set-main-fits mk ks (c ∷ kss) [] x k v l g e w = absurd g
 set-main-fits mk ks (c ∷ kss) (q ∷ rs) x k v l g e w = set-last-fits c kss q rs x k v (g .0) (g .1) (rw l e) w
 
-fill-fits : (ks : List Kind) (n : ℕ) (vs : List ℤ) → Fitting (take n ks) vs → Fitting ks (fill (length ks) vs)
+pub fill-fits : (ks : List Kind) (n : ℕ) (vs : List ℤ) → Fitting (take n ks) vs → Fitting ks (fill (length ks) vs)
 fill-fits [] zero [] h = tt
 fill-fits [] zero (v ∷ vs) h = absurd h
 fill-fits [] (suc n) [] h = tt
@@ -88,7 +88,7 @@ fill-fits (k ∷ ks) (suc n) [] h = absurd h
 fill-fits (k ∷ ks) (suc n) (v ∷ vs) h = (h .0, fill-fits ks n vs (h .1))
 
 -- a result of a function, if it has one
-abbrev ResultOf : Option Kind → ℤ → Type 0
+abbrev pub ResultOf : Option Kind → ℤ → Type 0
 ResultOf None v = Unit {0}
 ResultOf (Some k) v = IsOf k v
 

@@ -31,7 +31,7 @@ use Rattle.language.specs.Rules.{Operates}
 use Rattle.language.specs.Operators.{numbersOf, applyUnary, applyBinary, finds}
 use Rattle.language.specs.Ranges.{IsOf}
 
-cells : (k : Kind) → Cells (numbersOf k)
+pub cells : (k : Kind) → Cells (numbersOf k)
 cells Int = int-cells
 cells Byte = byte-cells
 
@@ -50,7 +50,7 @@ of-bit : (b : Bool) → IsOf Byte (bit b)
 of-bit true = of-constant Byte 1 (omega arith)
 of-bit false = of-constant Byte 0 (omega arith)
 
-of-byte : (v : ℤ) → IsOf Byte v → IsOf Int v
+pub of-byte : (v : ℤ) → IsOf Byte v → IsOf Int v
 of-byte v w = let l = w .least in let m = w .most in record { least = omega (arith, ints); most = omega (arith, ints) }
 
 pub of-unary : (u : Unary) (v : ℤ) → IsOf (operandKind u) v → IsOf (unaryKind u) (applyUnary u v)

@@ -12,7 +12,7 @@ use Rattle.language.specs.Measures.{unaryWords, wordsE, wordsA, wordsC, wordsS,
 use Rattle.translate.specs.Code.{unaryCode, codeE, codeA, flip, decides, leftTarget, codeC, codeS, codeB, codeSs, codeEntries, codeBodies, codeP}
 use Rattle.translate.specs.declared.targets.Target.{Target}
 
-longU : (u : Unary) (p : ℕ) → length (unaryCode u p) ≡ unaryWords u
+pub longU : (u : Unary) (p : ℕ) → length (unaryCode u p) ≡ unaryWords u
 longU Plus p = refl
 longU Minus p = refl
 longU ByteNot p = refl
@@ -20,7 +20,7 @@ longU Extend p = refl
 longU Shrink p = refl
 
 mutual
-  longE : (e : Expr) → length (codeE e) ≡ wordsE e
+  pub longE : (e : Expr) → length (codeE e) ≡ wordsE e
   longE (constant p k n) = refl
   longE (variable p s x k) = refl
   longE (unary p u a) = simp length-append (omega (arith, longU u p, longE a))
@@ -28,11 +28,11 @@ mutual
   longE (call p f k xs) = simp length-append (omega (arith, longA xs))
   longE (read p q) = refl
 
-  longA : (xs : Args) → length (codeA xs) ≡ wordsA xs
+  pub longA : (xs : Args) → length (codeA xs) ≡ wordsA xs
   longA none = refl
   longA (more a xs) = simp length-append (omega (arith, longE a, longA xs))
 
-longC : (c : Cond) (w : Bool) (t h : ℕ) → length (codeC c w t h) ≡ wordsC c
+pub longC : (c : Cond) (w : Bool) (t h : ℕ) → length (codeC c w t h) ≡ wordsC c
 longC (compare p c k a b) w t h = simp length-append (omega (arith, longE a, longE b))
 longC (negate p c) w t h = longC c (flip w) t h
 longC (join p j c d) w t h =
@@ -40,7 +40,7 @@ longC (join p j c d) w t h =
 longC (holds p a) w t h = simp length-append (omega (arith, longE a))
 
 mutual
-  longS : (s : Stmt) (ts : List Target) (h : ℕ) → length (codeS s ts h) ≡ wordsS s
+  pub longS : (s : Stmt) (ts : List Target) (h : ℕ) → length (codeS s ts h) ≡ wordsS s
   longS (skip p) ts h = refl
   longS (assign p s x k a) ts h = simp length-append (omega (arith, longE a))
   longS (perform p f xs) ts h = simp length-append (omega (arith, longA xs))
@@ -54,18 +54,18 @@ mutual
   longS (return p a) ts h = simp length-append (omega (arith, longE a))
   longS (write p q a) ts h = simp length-append (omega (arith, longE a))
 
-  longB : (b : Block) (ts : List Target) (h : ℕ) → length (codeB b ts h) ≡ wordsB b
+  pub longB : (b : Block) (ts : List Target) (h : ℕ) → length (codeB b ts h) ≡ wordsB b
   longB (block p ss) ts h = longSs ss ts h
 
-  longSs : (ss : Stmts) (ts : List Target) (h : ℕ) → length (codeSs ss ts h) ≡ wordsSs ss
+  pub longSs : (ss : Stmts) (ts : List Target) (h : ℕ) → length (codeSs ss ts h) ≡ wordsSs ss
   longSs done ts h = refl
   longSs (next s ss) ts h = simp length-append (omega (arith, longS s ts h, longSs ss ts (h + wordsS s)))
 
-long-entries : (P : Program) (h : ℕ) → length (codeEntries P h) ≡ length P
+pub long-entries : (P : Program) (h : ℕ) → length (codeEntries P h) ≡ length P
 long-entries [] h = refl
 long-entries (f ∷ fs) h = ap suc (long-entries fs (h + wordsB (f .body) + 1))
 
-long-bodies : (P : Program) (h : ℕ) → length (codeBodies P h) ≡ wordsBodies P
+pub long-bodies : (P : Program) (h : ℕ) → length (codeBodies P h) ≡ wordsBodies P
 long-bodies [] h = refl
 long-bodies (f ∷ fs) h = simp length-append (omega (arith, longB (f .body) [] h, long-bodies fs (h + wordsB (f .body) + 1)))
 

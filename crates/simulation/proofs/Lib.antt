@@ -1,0 +1,13 @@
+pub mod Moves
+pub mod Rows
+pub mod Agree
+pub mod Words
+pub mod Does
+pub mod Places
+pub mod Scenes
+pub mod Sim
+pub mod Functions
+pub mod Placed
+pub mod Programs
+pub mod Bound
+pub mod Whole
