@@ -199,7 +199,7 @@ impl Activation {
     }
 
     // The cells of a function that is called with the upper operands, given of them.
-    pub fn arguments(&self, given: usize) -> [i16; 64]
+    pub(crate) fn arguments(&self, given: usize) -> [i16; 64]
         requires { ⌜ given ≤ now self .count - now self .variables ⌝ }
         ensures { λ r. ⌜ r ≡ args given (seen (now (self .entry)) .ops) ++ replicate (64 - given) (pos 0) ⌝ }
     {
@@ -212,7 +212,7 @@ impl Activation {
     }
 
     // The upper operands go, given of them.
-    pub fn release(&mut self, given: usize)
+    pub(crate) fn release(&mut self, given: usize)
         requires { ⌜ given ≤ now self .count - now self .variables ⌝ }
         ensures { λ _. ⌜ seen (now (self .exit)) ≡ withOps (seen (now (self .entry))) (drop given (seen (now (self .entry)) .ops)) ⌝ }
     {
