@@ -1,4 +1,6 @@
 // Stack code: 64-bit words, what they say, and how they are written.
+#![tactic(auto)]
+
 mod entry;
 mod instruction;
 mod read;

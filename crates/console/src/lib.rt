@@ -1,4 +1,6 @@
 // What is told to a person, word for word.
+#![tactic(auto)]
+
 mod told;
 mod verdict;
 

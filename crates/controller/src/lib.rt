@@ -1,4 +1,6 @@
 // The controller: it loads a program's table, and runs its stack code in turns over a line.
+#![tactic(auto)]
+
 mod answer;
 mod arm;
 mod call;

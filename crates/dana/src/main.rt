@@ -1,5 +1,7 @@
 // Reads a tree table from standard input and tells whether it passes, or the first rule broken. With the argument
 // `code` it lists the words of a table that passes, one to a line: address, name, aux, node and operand.
+#![tactic(auto)]
+
 mod name;
 
 use checker::Program;

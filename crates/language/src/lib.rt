@@ -1,5 +1,7 @@
 // Dana: its programs as trees, what they mean, and the laws of that meaning.
 // Nothing here is to be run: each function's contract is a law, and its answer is 0.
+#![tactic(auto)]
+
 ghost use Rattle.language.specs.Laws.{MoreEntries, MoreBytes, BoundNeverShows, TakenAndSent, CausesKnown};
 ghost use Rattle.language.specs.Ranges.{ValuesInRange};
 

@@ -1,4 +1,6 @@
 // A program's table and what is read off it determine each other.
+#![tactic(auto)]
+
 ghost use Rattle.layout.specs.Stored.{Layouts_read, Layouts_written, Layouts_recorded};
 
 // Where a table's layout passes, every function has a record within the limits.

@@ -1,4 +1,6 @@
 // Tests of numbers, of their texts and of lines.
+#![tactic(auto)]
+
 #[cfg(test)]
 mod lines;
 #[cfg(test)]

@@ -1,4 +1,6 @@
 // A line: bytes that wait to be taken and bytes that were sent.
+#![tactic(auto)]
+
 ghost use Rattle.std.specs.Prelude.{◌≡◌, ℕ, List, length};
 ghost use Rattle.line.specs.Ends.{at, Added, Removed};
 

@@ -1,4 +1,6 @@
 // The machine that runs stack code: activations, one step, planned and performed.
+#![tactic(auto)]
+
 mod activation;
 mod execute;
 mod message;

@@ -1,4 +1,6 @@
 // Numbers: two kinds, their arithmetic, comparison and logic, and their decimal texts.
+#![tactic(auto)]
+
 mod arithmetic;
 mod comparison;
 mod decimal;

@@ -1,4 +1,6 @@
 // The tree table: its header, function records and node records, and what each of them says.
+#![tactic(auto)]
+
 mod decode;
 mod read;
 mod record;

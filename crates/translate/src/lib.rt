@@ -1,4 +1,6 @@
 // The translator: the stack code of a program that passed the check.
+#![tactic(auto)]
+
 mod act;
 mod aims;
 mod arrive;

@@ -1,4 +1,6 @@
 // The walk over a tree table: each rule applied where it is reached, up to the first that is broken.
+#![tactic(auto)]
+
 mod arrive;
 mod bodies;
 mod conditions;

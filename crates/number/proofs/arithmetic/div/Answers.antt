@@ -10,8 +10,8 @@ returns-then-divisor-eq0 g c =
     let y : c.operand-divisor.result ≡ folded g.K.NumberKind.kind c.args.b = search rules in
     zero-gives c.operand-divisor.result _ _ c.operand-divisor.ensures.small y c.if-divisor-eq0.true
 
-pub nonzero-div-operand : goal.nonzero-div-operand
-nonzero-div-operand g c =
+pub nonzero_div-operand : goal.nonzero_div-operand
+nonzero_div-operand g c =
     (omega (arith, ints), by_bits quot_z quotient-stays c.operand.result c.operand-divisor.result c.operand.ensures.small c.operand-divisor.ensures.small)
 
 pub returns : goal.returns

@@ -10,5 +10,5 @@ returns g c =
     let y : c.operand-2.result ≡ folded k c.args.b = search rules in
     gives (◌*ℤ◌) product-stays k c.operand.result c.operand-2.result _ _ c.fold.result c.operand.ensures.small c.operand-2.ensures.small x y (search rules) c.fold.ensures.value
 
-pub overflow-mul-operand : goal.overflow-mul-operand
-overflow-mul-operand g c = by_bits (◌*ℤ◌) product-stays c.operand.result c.operand-2.result c.operand.ensures.small c.operand-2.ensures.small
+pub overflow_mul-operand : goal.overflow_mul-operand
+overflow_mul-operand g c = by_bits (◌*ℤ◌) product-stays c.operand.result c.operand-2.result c.operand.ensures.small c.operand-2.ensures.small

@@ -8,7 +8,7 @@ pub returns-in-Some : goal.returns-in-Some
 returns-in-Some g c =
     let k = g.K.NumberKind.kind in
     let bs = c.args.bytes.now in
-    let e : c.judge.result ≡ reading k bs = outcome k bs c.in-Some.i c.numeral-of.result c.judge.result (sym c.in-Some.ensures.place) c.numeral-of.ensures c.judge.ensures in
+    let e : c.judge.result ≡ reading k bs = outcome k bs c.in-Some.i c.numeral_of.result c.judge.result (sym c.in-Some.ensures.place) c.numeral_of.ensures c.judge.ensures in
     record { value = e; eight = eight k bs c.judge.result e; settled = settled k bs c.judge.result e }
 
 pub returns-then-bytes-lt-WINDOW : goal.returns-then-bytes-lt-WINDOW

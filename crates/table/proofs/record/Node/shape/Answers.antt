@@ -12,26 +12,26 @@ use Rattle.table.proofs.record.Node.shape.Goals as goal
 both : (n : Node) {r : Option Shape} → r ≡ shape_of n → record { is : r ≡ shape_of n; exactly : Decodes n r }
 both n h = record { is = h; exactly = rw h (decodes n) }
 
-pub returns-in-err-block-of : goal.returns-in-err-block-of
-returns-in-err-block-of c = both c.args.self.now (c.from-residual.ensures ∙ sym (shape-block c.args.self.now (omega arith) ∙ ap (mapped Block) (sym c.block-of.ensures ∙ c.in-err-block-of.was)))
+pub returns-in_err-block_of-in-41 : goal.returns-in_err-block_of-in-41
+returns-in_err-block_of-in-41 c = both c.args.self.now (c.from_residual.ensures ∙ sym (shape-block c.args.self.now (omega arith) ∙ ap (mapped Block) (sym c.block_of.ensures ∙ c.in_err-block_of-in-41.was)))
 
-pub returns-in-ok-block-of : goal.returns-in-ok-block-of
-returns-in-ok-block-of c = both c.args.self.now (sym (shape-block c.args.self.now (omega arith) ∙ ap (mapped Block) (sym c.block-of.ensures ∙ c.in-ok-block-of.was)))
+pub returns-in_ok-block_of-in-41 : goal.returns-in_ok-block_of-in-41
+returns-in_ok-block_of-in-41 c = both c.args.self.now (sym (shape-block c.args.self.now (omega arith) ∙ ap (mapped Block) (sym c.block_of.ensures ∙ c.in_ok-block_of-in-41.was)))
 
-pub returns-in-err-expression-of : goal.returns-in-err-expression-of
-returns-in-err-expression-of c = both c.args.self.now (c.from-residual-in-err-expression-of.ensures ∙ sym (shape_value c.args.self.now (omega arith) ∙ ap (mapped Value) (sym c.expression-of.ensures ∙ c.in-err-expression-of.was)))
+pub returns-in_err-expression_of-in-0-to-19 : goal.returns-in_err-expression_of-in-0-to-19
+returns-in_err-expression_of-in-0-to-19 c = both c.args.self.now (c.from_residual-in_err-expression_of-in-0-to-19.ensures ∙ sym (shape_value c.args.self.now (omega arith) ∙ ap (mapped Value) (sym c.expression_of.ensures ∙ c.in_err-expression_of-in-0-to-19.was)))
 
-pub returns-in-ok-expression-of : goal.returns-in-ok-expression-of
-returns-in-ok-expression-of c = both c.args.self.now (sym (shape_value c.args.self.now (omega arith) ∙ ap (mapped Value) (sym c.expression-of.ensures ∙ c.in-ok-expression-of.was)))
+pub returns-in_ok-expression_of-in-0-to-19 : goal.returns-in_ok-expression_of-in-0-to-19
+returns-in_ok-expression_of-in-0-to-19 c = both c.args.self.now (sym (shape_value c.args.self.now (omega arith) ∙ ap (mapped Value) (sym c.expression_of.ensures ∙ c.in_ok-expression_of-in-0-to-19.was)))
 
-pub returns-in-err-condition-of : goal.returns-in-err-condition-of
-returns-in-err-condition-of c = both c.args.self.now (c.from-residual-in-err-condition-of.ensures ∙ sym (shape_test c.args.self.now (omega arith) (omega arith) ∙ ap (mapped Test) (sym c.condition-of.ensures ∙ c.in-err-condition-of.was)))
+pub returns-in_err-condition_of-in-20-to-29 : goal.returns-in_err-condition_of-in-20-to-29
+returns-in_err-condition_of-in-20-to-29 c = both c.args.self.now (c.from_residual-in_err-condition_of-in-20-to-29.ensures ∙ sym (shape_test c.args.self.now (omega arith) (omega arith) ∙ ap (mapped Test) (sym c.condition_of.ensures ∙ c.in_err-condition_of-in-20-to-29.was)))
 
-pub returns-in-ok-condition-of : goal.returns-in-ok-condition-of
-returns-in-ok-condition-of c = both c.args.self.now (sym (shape_test c.args.self.now (omega arith) (omega arith) ∙ ap (mapped Test) (sym c.condition-of.ensures ∙ c.in-ok-condition-of.was)))
+pub returns-in_ok-condition_of-in-20-to-29 : goal.returns-in_ok-condition_of-in-20-to-29
+returns-in_ok-condition_of-in-20-to-29 c = both c.args.self.now (sym (shape_test c.args.self.now (omega arith) (omega arith) ∙ ap (mapped Test) (sym c.condition_of.ensures ∙ c.in_ok-condition_of-in-20-to-29.was)))
 
-pub returns-in-err-statement-of : goal.returns-in-err-statement-of
-returns-in-err-statement-of c = both c.args.self.now (c.from-residual-in-err-statement-of.ensures ∙ sym (shape_act c.args.self.now (omega arith) (omega arith) ∙ ap (mapped Act) (sym c.statement-of.ensures ∙ c.in-err-statement-of.was)))
+pub returns-in_err-statement_of-in_default : goal.returns-in_err-statement_of-in_default
+returns-in_err-statement_of-in_default c = both c.args.self.now (c.from_residual-in_err-statement_of-in_default.ensures ∙ sym (shape_act c.args.self.now (omega arith) (omega arith) ∙ ap (mapped Act) (sym c.statement_of.ensures ∙ c.in_err-statement_of-in_default.was)))
 
-pub returns-in-ok-statement-of : goal.returns-in-ok-statement-of
-returns-in-ok-statement-of c = both c.args.self.now (sym (shape_act c.args.self.now (omega arith) (omega arith) ∙ ap (mapped Act) (sym c.statement-of.ensures ∙ c.in-ok-statement-of.was)))
+pub returns-in_ok-statement_of-in_default : goal.returns-in_ok-statement_of-in_default
+returns-in_ok-statement_of-in_default c = both c.args.self.now (sym (shape_act c.args.self.now (omega arith) (omega arith) ∙ ap (mapped Act) (sym c.statement_of.ensures ∙ c.in_ok-statement_of-in_default.was)))
