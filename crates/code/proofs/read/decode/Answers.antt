@@ -4,4 +4,4 @@ use Rattle.code.proofs.read.decode.Goals as goal
 
 pub returns : goal.returns
 unfolding instruction_of
-returns c = record { value = c.instruction-from.ensures; again = written_again c.args.word c.instruction-from.result c.instruction-from.ensures }
+returns c = record { value = c.instruction_from.ensures; again = written_again c.args.word c.instruction_from.result c.instruction_from.ensures }
