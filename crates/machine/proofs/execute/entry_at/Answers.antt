@@ -7,6 +7,6 @@ returns-then-function-code c = record { is = entry-out c.args.code.now c.args.fu
 pub returns : goal.returns
 returns c =
     record {
-      is = entry_in c.args.code.now c.args.function c.decode-entry.result c.if-function-code.false c.decode-entry.ensures.value;
-      few = entry-few _ c.decode-entry.result c.decode-entry.ensures.again;
+      is = entry_in c.args.code.now c.args.function c.decode_entry.result c.if-function-code.false c.decode_entry.ensures.value;
+      few = entry-few _ c.decode_entry.result c.decode_entry.ensures.again;
     }

@@ -13,4 +13,4 @@ returns-in-Byte c = c.read-in-Byte.ensures.value ∙ ap (λ (q : Format). finds 
 
 pub returns-in-Char : goal.returns-in-Char
 unfolding finds
-returns-in-Char c = c.first-byte.ensures ∙ ap (λ (q : Format). finds q c.args.bytes.now) (sym c.in-Char.is)
+returns-in-Char c = c.first_byte.ensures ∙ ap (λ (q : Format). finds q c.args.bytes.now) (sym c.in-Char.is)

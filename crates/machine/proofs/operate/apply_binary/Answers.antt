@@ -10,7 +10,7 @@ unfolding apply_binary
 returns-in-Int c =
     let f = c.ranges.x in
     let g = c.ranges.y in
-    let e : c.binary-in.result ≡ binary_in c.args.operator int c.args.x c.args.y = simp to_z-of_z at c.binary-in.ensures in
+    let e : c.binary_in.result ≡ binary_in c.args.operator int c.args.x c.args.y = simp to_z-of_z at c.binary_in.ensures in
     e ∙ ap (λ (k : Kind). binary_in c.args.operator (numbers_of k) c.args.x c.args.y) (sym c.in-Int.is)
 
 pub returns-in-Byte : goal.returns-in-Byte
@@ -18,5 +18,5 @@ unfolding apply_binary
 returns-in-Byte c =
     let f = c.ranges.x in
     let g = c.ranges.y in
-    let e : c.binary-in-in-Byte.result ≡ binary_in c.args.operator byte c.args.x c.args.y = simp to_z-of_z at c.binary-in-in-Byte.ensures in
+    let e : c.binary_in-in-Byte.result ≡ binary_in c.args.operator byte c.args.x c.args.y = simp to_z-of_z at c.binary_in-in-Byte.ensures in
     e ∙ ap (λ (k : Kind). binary_in c.args.operator (numbers_of k) c.args.x c.args.y) (sym c.in-Byte.is)

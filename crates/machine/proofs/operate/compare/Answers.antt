@@ -10,7 +10,7 @@ unfolding compared
 returns-in-Int c =
     let f = c.ranges.x in
     let g = c.ranges.y in
-    let e : c.compare-in.result ≡ compared_in c.args.comparison int c.args.x c.args.y = simp to_z-of_z at c.compare-in.ensures in
+    let e : c.compare_in.result ≡ compared_in c.args.comparison int c.args.x c.args.y = simp to_z-of_z at c.compare_in.ensures in
     e ∙ ap (λ (k : Kind). compared_in c.args.comparison (numbers_of k) c.args.x c.args.y) (sym c.in-Int.is)
 
 pub returns-in-Byte : goal.returns-in-Byte
@@ -18,5 +18,5 @@ unfolding compared
 returns-in-Byte c =
     let f = c.ranges.x in
     let g = c.ranges.y in
-    let e : c.compare-in-in-Byte.result ≡ compared_in c.args.comparison byte c.args.x c.args.y = simp to_z-of_z at c.compare-in-in-Byte.ensures in
+    let e : c.compare_in-in-Byte.result ≡ compared_in c.args.comparison byte c.args.x c.args.y = simp to_z-of_z at c.compare_in-in-Byte.ensures in
     e ∙ ap (λ (k : Kind). compared_in c.args.comparison (numbers_of k) c.args.x c.args.y) (sym c.in-Byte.is)

@@ -2,34 +2,34 @@ use Rattle.std.proofs.Common.{rules}
 use Rattle.translate.proofs.Writes.{wrote_then, wrote_as}
 use Rattle.translate.proofs.jump.+jump_if_false_jump_if_true_left_side.Goals as goal
 
-pub jump-if-false-returns-in-default : goal.jump-if-false-returns-in-default
-jump-if-false-returns-in-default t c =
+pub jump_if_false-returns-in-default : goal.jump_if_false-returns-in-default
+jump_if_false-returns-in-default t c =
     record { is = wrote_as (wrote_then c.put-middle.ensures.is c.put-end.ensures.is) (search rules); end = search rules; next = search rules }
 
-pub jump-if-false-returns-in-Compare : goal.jump-if-false-returns-in-Compare
-jump-if-false-returns-in-Compare t c =
+pub jump_if_false-returns-in-Compare : goal.jump_if_false-returns-in-Compare
+jump_if_false-returns-in-Compare t c =
     record { is = wrote_as (wrote_then (wrote_then c.value-middle.ensures.is c.value-next.ensures.is) c.put-end-in-Compare.ensures.is) (search rules); end = search rules; next = search rules }
 
-pub jump-if-false-returns-in-Join : goal.jump-if-false-returns-in-Join
-jump-if-false-returns-in-Join t c =
+pub jump_if_false-returns-in-Join : goal.jump_if_false-returns-in-Join
+jump_if_false-returns-in-Join t c =
     record { is = wrote_as (wrote_then c.left-side-middle.ensures.is c.jump-if-false-end.ensures.is) (search rules); end = search rules; next = search rules }
 
-pub jump-if-false-returns-in-Holds : goal.jump-if-false-returns-in-Holds
-jump-if-false-returns-in-Holds t c =
+pub jump_if_false-returns-in-Holds : goal.jump_if_false-returns-in-Holds
+jump_if_false-returns-in-Holds t c =
     record { is = wrote_as (wrote_then c.value-next-in-Holds.ensures.is c.put-end-in-Holds.ensures.is) (search rules); end = search rules; next = search rules }
 
-pub jump-if-true-returns-in-default : goal.jump-if-true-returns-in-default
-jump-if-true-returns-in-default t c =
+pub jump_if_true-returns-in-default : goal.jump_if_true-returns-in-default
+jump_if_true-returns-in-default t c =
     record { is = wrote_as (wrote_then c.put-middle.ensures.is c.put-end.ensures.is) (search rules); end = search rules; next = search rules }
 
-pub jump-if-true-returns-in-Compare : goal.jump-if-true-returns-in-Compare
-jump-if-true-returns-in-Compare t c =
+pub jump_if_true-returns-in-Compare : goal.jump_if_true-returns-in-Compare
+jump_if_true-returns-in-Compare t c =
     record { is = wrote_as (wrote_then (wrote_then c.value-middle.ensures.is c.value-next.ensures.is) c.put-end-in-Compare.ensures.is) (search rules); end = search rules; next = search rules }
 
-pub jump-if-true-returns-in-Join : goal.jump-if-true-returns-in-Join
-jump-if-true-returns-in-Join t c =
+pub jump_if_true-returns-in-Join : goal.jump_if_true-returns-in-Join
+jump_if_true-returns-in-Join t c =
     record { is = wrote_as (wrote_then c.left-side-middle.ensures.is c.jump-if-true-end.ensures.is) (search rules); end = search rules; next = search rules }
 
-pub jump-if-true-returns-in-Holds : goal.jump-if-true-returns-in-Holds
-jump-if-true-returns-in-Holds t c =
+pub jump_if_true-returns-in-Holds : goal.jump_if_true-returns-in-Holds
+jump_if_true-returns-in-Holds t c =
     record { is = wrote_as (wrote_then c.value-next-in-Holds.ensures.is c.put-end-in-Holds.ensures.is) (search rules); end = search rules; next = search rules }

@@ -8,8 +8,8 @@ arguments-size-value-size-first-requires t c = search (rules, args_step)
 pub arguments-size-arguments-size-rest-requires : goal.arguments-size-arguments-size-rest-requires
 arguments-size-arguments-size-rest-requires t c = search (rules, args_step)
 
-pub arguments-size-overflow-add-result : goal.arguments-size-overflow-add-result
-arguments-size-overflow-add-result t c = search (rules, args_step)
+pub arguments_size-overflow-add-result : goal.arguments_size-overflow-add-result
+arguments_size-overflow-add-result t c = search (rules, args_step)
 
-pub arguments-size-returns : goal.arguments-size-returns
-arguments-size-returns t c = search (rules, args_step)
+pub arguments_size-returns : goal.arguments_size-returns
+arguments_size-returns t c = search (rules, args_step)

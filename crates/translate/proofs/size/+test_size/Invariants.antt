@@ -1,4 +1,4 @@
 use Rattle.translate.proofs.size.+test_size.Given as goal
 
-abbrev pub decreases-test-size : goal.decreases-test-size
-decreases-test-size l = l.left
+abbrev pub decreases-test_size : goal.decreases-test_size
+decreases-test_size l = l.left

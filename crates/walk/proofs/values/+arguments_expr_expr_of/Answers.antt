@@ -19,8 +19,8 @@ next_argument : (cx : Context) (f : Function) (v : View) (k n : ℕ) (q : Kind) 
     ≡ onward (expr_from v (env_of v cx) k j) (λ p. args_from (expr_from v (env_of v cx) k) (drop (n + 1) (parameter_kinds (signature_of f))) (n + 1) (added a n q p.0) p.1)
 next_argument cx f v k n q a j h = args_step (expr_from v (env_of v cx) k) (parameter_kinds (signature_of f)) n n q a j (sym h)
 
-pub arguments-returns-in-err-argument : goal.arguments-returns-in-err-argument
-arguments-returns-in-err-argument t c =
+pub arguments-returns-in_err-argument : goal.arguments-returns-in_err-argument
+arguments-returns-in_err-argument t c =
     let h = next_argument c.args.cx.now c.args.callee.now (view c.args.t.now) c.args.left c.loop-kind.i c.in-Some.kind c.loop-kind.taken c.loop-kind.next c.in-Some.ensures in
     search rules
 

@@ -11,8 +11,8 @@ decreases-arguments l = 3 * l.left + 1
 abbrev pub decreases-expr : goal.decreases-expr
 decreases-expr l = 3 * l.left
 
-abbrev pub decreases-expr-of : goal.decreases-expr-of
-decreases-expr-of l = 3 * l.left + 2
+abbrev pub decreases-expr_of : goal.decreases-expr_of
+decreases-expr_of l = 3 * l.left + 2
 
 abbrev pub invariant-arguments-loop-kind : goal.invariant-arguments-loop-kind
 invariant-arguments-loop-kind l =

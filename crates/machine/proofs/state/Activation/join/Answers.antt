@@ -12,12 +12,12 @@ unfolding seen joined
 returns-then-self-lt2 c =
     two-few c.args.self.now.cells c.args.self.now.variables c.args.self.now.count c.args.self.now.gives c.args.self.now.back (λ x y s. resulting (act_of c.args.self.now.cells c.args.self.now.variables c.args.self.now.count c.args.self.now.gives c.args.self.now.back) s (apply_binary c.args.operator c.args.kind x y)) c.args.self.now.ok.0 c.if-self-lt2.true
 
-pub returns-in-default : goal.returns-in-default
+pub returns-in_default : goal.returns-in_default
 unfolding seen joined
-returns-in-default c =
+returns-in_default c =
     let f : SFits w16 (get_or c.args.self.now.cells (c.args.self.now.count - 1) (pos 0)) = search rules in
     let g : SFits w16 (get_or c.args.self.now.cells ((c.args.self.now.count - 1) - 1) (pos 0)) = search rules in
-    let e : None ≡ apply_binary c.args.operator c.args.kind (get_or c.args.self.now.cells ((c.args.self.now.count - 1) - 1) (pos 0)) (get_or c.args.self.now.cells (c.args.self.now.count - 1) (pos 0)) = simp to_z-of_z at c.in-default.ensures in
+    let e : None ≡ apply_binary c.args.operator c.args.kind (get_or c.args.self.now.cells ((c.args.self.now.count - 1) - 1) (pos 0)) (get_or c.args.self.now.cells (c.args.self.now.count - 1) (pos 0)) = simp to_z-of_z at c.in_default.ensures in
     ap (resulting (act_of c.args.self.now.cells c.args.self.now.variables c.args.self.now.count c.args.self.now.gives c.args.self.now.back) (down c.args.self.now.cells c.args.self.now.variables (((c.args.self.now.count - 1) - 1) - c.args.self.now.variables))) e ∙ two-there c.args.self.now.cells c.args.self.now.variables c.args.self.now.count c.args.self.now.gives c.args.self.now.back (λ x y s. resulting (act_of c.args.self.now.cells c.args.self.now.variables c.args.self.now.count c.args.self.now.gives c.args.self.now.back) s (apply_binary c.args.operator c.args.kind x y)) c.if-self-lt2.false
 
 pub returns : goal.returns

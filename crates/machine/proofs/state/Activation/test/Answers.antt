@@ -16,5 +16,5 @@ pub returns : goal.returns
 unfolding seen tested is_true
 returns c =
     let f : SFits w16 (get_or c.args.self.now.cells (c.args.self.now.count - 1) (pos 0)) = search rules in
-    let e : c.is-true-truth.result ≡ is_true (get_or c.args.self.now.cells (c.args.self.now.count - 1) (pos 0)) = simp to_z-of_z at c.is-true-truth.ensures in
-    ap (λ (z : Effect). (with_ops (act_of c.args.self.now.cells c.args.self.now.variables c.args.self.now.count c.args.self.now.gives c.args.self.now.back) (down c.args.self.now.cells c.args.self.now.variables ((c.args.self.now.count - 1) - c.args.self.now.variables)), z)) (c.jump-if.ensures ∙ ap (jumping c.args.sense c.args.target) e) ∙ one-there c.args.self.now.cells c.args.self.now.variables c.args.self.now.count c.args.self.now.gives c.args.self.now.back (λ x s. (with_ops (act_of c.args.self.now.cells c.args.self.now.variables c.args.self.now.count c.args.self.now.gives c.args.self.now.back) s, jumping c.args.sense c.args.target (is_true x))) c.if-self.false
+    let e : c.is_true-truth.result ≡ is_true (get_or c.args.self.now.cells (c.args.self.now.count - 1) (pos 0)) = simp to_z-of_z at c.is_true-truth.ensures in
+    ap (λ (z : Effect). (with_ops (act_of c.args.self.now.cells c.args.self.now.variables c.args.self.now.count c.args.self.now.gives c.args.self.now.back) (down c.args.self.now.cells c.args.self.now.variables ((c.args.self.now.count - 1) - c.args.self.now.variables)), z)) (c.jump_if.ensures ∙ ap (jumping c.args.sense c.args.target) e) ∙ one-there c.args.self.now.cells c.args.self.now.variables c.args.self.now.count c.args.self.now.gives c.args.self.now.back (λ x s. (with_ops (act_of c.args.self.now.cells c.args.self.now.variables c.args.self.now.count c.args.self.now.gives c.args.self.now.back) s, jumping c.args.sense c.args.target (is_true x))) c.if-self.false

@@ -8,10 +8,10 @@ use Rattle.machine.proofs.Passed.{length-args}
 use Rattle.machine.proofs.Tables.{call_none, call-few, call-deep, call_in, fresh_is, any_default}
 use Rattle.machine.proofs.state.Core.call.Goals as goal
 
-pub returns-in-default : goal.returns-in-default
+pub returns-in_default : goal.returns-in_default
 unfolding view
-returns-in-default c =
-    call_none c.args.code.now c.args.function c.args.node c.args.next (view c.args.self.now) c.in-default.ensures.is
+returns-in_default c =
+    call_none c.args.code.now c.args.function c.args.node c.args.next (view c.args.self.now) c.in_default.ensures.is
 
 pub returns-then-operands-given : goal.returns-then-operands-given
 unfolding view

@@ -18,11 +18,11 @@ returns-then-not-self-top c =
     let l : c.args.self.now.depth.n ≤ length c.args.self.now.activations = omega arith in
     return_not c.args.self.now.activations c.args.self.now.depth.n c.args.self.now.at c.args.node 0 c.requires l c.if-top-eq0.false c.index-self-top.result c.index-self-top.result c.if-not-self-top.true
 
-pub returns-in-default : goal.returns-in-default
+pub returns-in_default : goal.returns-in_default
 unfolding view seen
-returns-in-default c =
+returns-in_default c =
     let l : c.args.self.now.depth.n ≤ length c.args.self.now.activations = omega arith in
-    return_none c.args.self.now.activations c.args.self.now.depth.n c.args.self.now.at c.args.node 0 c.requires l c.if-top-eq0.false c.index-self-top-2.result c.index-self-top.result (ap (λ (x : Activation). x.gives) (any_default c.args.self.now.activations (c.args.self.now.depth.n - 1) c.index-self-top-2.result c.index-self-top.result (omega arith)) ∙ c.if-not-self-top.false) c.in-default.ensures
+    return_none c.args.self.now.activations c.args.self.now.depth.n c.args.self.now.at c.args.node 0 c.requires l c.if-top-eq0.false c.index-self-top-2.result c.index-self-top.result (ap (λ (x : Activation). x.gives) (any_default c.args.self.now.activations (c.args.self.now.depth.n - 1) c.index-self-top-2.result c.index-self-top.result (omega arith)) ∙ c.if-not-self-top.false) c.in_default.ensures
 
 pub returns-then-not-free : goal.returns-then-not-free
 unfolding view seen

@@ -9,11 +9,11 @@ unfolding view
 returns-then-self-gt0 c =
     (later_step c.args.code.now c.args.self.now.activations c.args.self.now.depth.n c.args.self.now.at c.if-self-gt0.true, c.if-self-gt0.true)
 
-pub returns-in-default : goal.returns-in-default
+pub returns-in_default : goal.returns-in_default
 unfolding view
-returns-in-default c =
+returns-in_default c =
     let z = none_open c.args.self.now.activations c.args.self.now.depth.n (omega arith) in
-    first_none c.args.code.now (view c.args.self.now) z c.in-default.ensures.is
+    first_none c.args.code.now (view c.args.self.now) z c.in_default.ensures.is
 
 pub returns : goal.returns
 unfolding view

@@ -6,11 +6,11 @@ use Rattle.machine.specs.States.{args}
 use Rattle.machine.proofs.Tables.{store_main_none, store_main_slot, store_main_there, any_default}
 use Rattle.machine.proofs.state.Core.store_main.Goals as goal
 
-pub returns-in-default : goal.returns-in-default
+pub returns-in_default : goal.returns-in_default
 unfolding view
-returns-in-default c =
+returns-in_default c =
     let l : c.args.self.now.depth.n ≤ length c.args.self.now.activations = omega arith in
-    store_main_none c.args.self.now.activations c.args.self.now.depth.n c.args.self.now.at c.args.node c.args.next c.requires l c.args.slot c.index-self-top.result c.index-self-top.result c.in-default.ensures
+    store_main_none c.args.self.now.activations c.args.self.now.depth.n c.args.self.now.at c.args.node c.args.next c.requires l c.args.slot c.index-self-top.result c.index-self-top.result c.in_default.ensures
 
 pub returns-then-not-has : goal.returns-then-not-has
 unfolding view

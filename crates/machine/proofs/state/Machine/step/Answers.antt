@@ -29,17 +29,17 @@ returns-in-Failed g c =
     let e = step_failed c.args.code.now (view c.args.self.now.core) c.args.self.now.latch c.in-Failed.cause c.in-Failed.node (g.L.Line.waiting c.args.line.now) (g.L.Line.sent c.args.line.now) (g.L.Line.room c.args.line.now) c.in-Failed.is in
     record { steps = e; laws = step-laws c.args.code.now (world (view c.args.self.now.core) c.args.self.now.latch (g.L.Line.waiting c.args.line.now) (g.L.Line.sent c.args.line.now) (g.L.Line.room c.args.line.now)) _ e; hold = held (g.L.Line.hold c.args.line.now) (g.L.Line.waiting c.args.line.now) (g.L.Line.waiting c.args.line.now) }
 
-pub returns-in-default : goal.returns-in-default
-returns-in-default g c =
+pub returns-in_default : goal.returns-in_default
+returns-in_default g c =
     let e = step_by c.args.code.now (view c.args.self.now.core) c.args.self.now.latch (g.L.Line.waiting c.args.line.now) (g.L.Line.sent c.args.line.now) (g.L.Line.room c.args.line.now) (view c.advance.new.self) c.advance.result _ c.in-Open.is c.advance.ensures
-    (finished_is (view c.advance.new.self) c.advance.result _ _ _ (g.L.Line.waiting c.args.line.now) (g.L.Line.sent c.args.line.now) (g.L.Line.room c.args.line.now) (ap view c.settle-in-default.ensures.core) c.settle-in-default.ensures.latch c.settle-in-default.ensures.outcome
-    ∙ performed-rest (view c.args.self.now.core) (view c.advance.new.self) c.advance.result (g.L.Line.waiting c.args.line.now) (g.L.Line.sent c.args.line.now) (g.L.Line.room c.args.line.now) c.in-default.not-Read c.in-default.not-Send) in
+    (finished_is (view c.advance.new.self) c.advance.result _ _ _ (g.L.Line.waiting c.args.line.now) (g.L.Line.sent c.args.line.now) (g.L.Line.room c.args.line.now) (ap view c.settle-in_default.ensures.core) c.settle-in_default.ensures.latch c.settle-in_default.ensures.outcome
+    ∙ performed-rest (view c.args.self.now.core) (view c.advance.new.self) c.advance.result (g.L.Line.waiting c.args.line.now) (g.L.Line.sent c.args.line.now) (g.L.Line.room c.args.line.now) c.in_default.not-Read c.in_default.not-Send) in
     record { steps = e; laws = step-laws c.args.code.now (world (view c.args.self.now.core) c.args.self.now.latch (g.L.Line.waiting c.args.line.now) (g.L.Line.sent c.args.line.now) (g.L.Line.room c.args.line.now)) _ e; hold = held (g.L.Line.hold c.args.line.now) (g.L.Line.waiting c.args.line.now) (g.L.Line.waiting c.args.line.now) }
 
 pub returns-in-Wait : goal.returns-in-Wait
 unfolding view
 returns-in-Wait g c =
-    let b : c.as-bytes.result.now ≡ take 8 (g.L.Line.waiting c.args.line.now) = c.as-bytes.ensures ∙ c.peek.ensures in
+    let b : c.as_bytes.result.now ≡ take 8 (g.L.Line.waiting c.args.line.now) = c.as_bytes.ensures ∙ c.peek.ensures in
     let d = c.in-Wait.ensures ∙ (ap (finds c.in-Read.format) b ∙ finds-eight c.in-Read.format (g.L.Line.waiting c.args.line.now)) in
     let u : view c.undo.new.self ≡ (view c.args.self.now.core) = c.undo.ensures ∙ undone c.args.code.now c.args.self.now.core.activations c.args.self.now.core.depth.n c.args.self.now.core.at (view c.advance.new.self) c.in-Read.format c.in-Read.node c.in-Read.next c.in-Read.ensures in
     let x : (world (view c.undo.new.self) c.args.self.now.latch (g.L.Line.waiting c.args.line.now) (g.L.Line.sent c.args.line.now) (g.L.Line.room c.args.line.now), Waits) ≡ (world (view c.args.self.now.core) Open (g.L.Line.waiting c.args.line.now) (g.L.Line.sent c.args.line.now) (g.L.Line.room c.args.line.now), Waits) =
@@ -50,7 +50,7 @@ returns-in-Wait g c =
 
 pub returns-in-Refused : goal.returns-in-Refused
 returns-in-Refused g c =
-    let b : c.as-bytes.result.now ≡ take 8 (g.L.Line.waiting c.args.line.now) = c.as-bytes.ensures ∙ c.peek.ensures in
+    let b : c.as_bytes.result.now ≡ take 8 (g.L.Line.waiting c.args.line.now) = c.as_bytes.ensures ∙ c.peek.ensures in
     let d = c.in-Refused.ensures ∙ (ap (finds c.in-Read.format) b ∙ finds-eight c.in-Read.format (g.L.Line.waiting c.args.line.now)) in
     let e = step_by c.args.code.now (view c.args.self.now.core) c.args.self.now.latch (g.L.Line.waiting c.args.line.now) (g.L.Line.sent c.args.line.now) (g.L.Line.room c.args.line.now) (view c.advance.new.self) (Read c.in-Read.format c.in-Read.node c.in-Read.next) _ c.in-Open.is c.in-Read.ensures
     (finished_is (view c.advance.new.self) (Fault RefusedText c.in-Read.node) _ _ _ (g.L.Line.waiting c.args.line.now) (g.L.Line.sent c.args.line.now) (g.L.Line.room c.args.line.now) (ap view c.settle.ensures.core) c.settle.ensures.latch c.settle.ensures.outcome
@@ -59,7 +59,7 @@ returns-in-Refused g c =
 
 pub returns-in-Took : goal.returns-in-Took
 returns-in-Took g c =
-    let b : c.as-bytes.result.now ≡ take 8 (g.L.Line.waiting c.args.line.now) = c.as-bytes.ensures ∙ c.peek.ensures in
+    let b : c.as_bytes.result.now ≡ take 8 (g.L.Line.waiting c.args.line.now) = c.as_bytes.ensures ∙ c.peek.ensures in
     let d = c.in-Took.ensures ∙ (ap (finds c.in-Read.format) b ∙ finds-eight c.in-Read.format (g.L.Line.waiting c.args.line.now)) in
     let n = found_inside c.in-Read.format (g.L.Line.waiting c.args.line.now) c.in-Took.value c.in-Took.count d in
     let k : Removed c.take.result c.in-Took.count (g.L.Line.waiting c.args.line.now) (g.L.Line.hold c.args.line.now) (g.L.Line.waiting c.take.new.self) (g.L.Line.hold c.take.new.self) = search rules in
@@ -73,29 +73,29 @@ returns-in-Took g c =
     ∙ (ap (λ (z : State × Plan). finished z (drop c.in-Took.count (g.L.Line.waiting c.args.line.now)) (g.L.Line.sent c.args.line.now) (g.L.Line.room c.args.line.now)) p ∙ ap (λ (z : Reading). received (view c.args.self.now.core) (view c.advance.new.self) c.in-Read.node c.in-Read.next z (g.L.Line.waiting c.args.line.now) (g.L.Line.sent c.args.line.now) (g.L.Line.room c.args.line.now)) d)) in
     record { steps = e; laws = step-laws c.args.code.now (world (view c.args.self.now.core) c.args.self.now.latch (g.L.Line.waiting c.args.line.now) (g.L.Line.sent c.args.line.now) (g.L.Line.room c.args.line.now)) _ e; hold = t.1 }
 
-pub returns-then-send-text : goal.returns-then-send-text
-returns-then-send-text g c =
+pub returns-then-send_text : goal.returns-then-send_text
+returns-then-send_text g c =
     let f : SFits w16 c.in-Send.value = search rules in
     let m : bytes_of c.compose.result ≡ text_of c.in-Send.format c.in-Send.value = simp to_z-of_z at c.compose.ensures in
-    let b : c.as-bytes-in-Send.result.now ≡ text_of c.in-Send.format c.in-Send.value = c.as-bytes-in-Send.ensures ∙ m in
-    let n : length c.as-bytes-in-Send.result.now ≡ length (text_of c.in-Send.format c.in-Send.value) = ap length b in
-    let t = c.if-send-text.ensures.goes in
+    let b : c.as_bytes-in-Send.result.now ≡ text_of c.in-Send.format c.in-Send.value = c.as_bytes-in-Send.ensures ∙ m in
+    let n : length c.as_bytes-in-Send.result.now ≡ length (text_of c.in-Send.format c.in-Send.value) = ap length b in
+    let t = c.if-send_text.ensures.goes in
     let e =
     step_by c.args.code.now (view c.args.self.now.core) c.args.self.now.latch (g.L.Line.waiting c.args.line.now) (g.L.Line.sent c.args.line.now) (g.L.Line.room c.args.line.now) (view c.advance.new.self) (Send c.in-Send.format c.in-Send.value c.in-Send.node c.in-Send.next) _ c.in-Open.is c.in-Send.ensures
-    (ap (λ (z : State). (world z c.settle-then-send-text.new.self.latch (g.L.Line.waiting c.send-text.new.line) (g.L.Line.sent c.send-text.new.line) (g.L.Line.room c.send-text.new.line), c.settle-then-send-text.result)) (ap view c.settle-then-send-text.ensures.core)
-    ∙ delivered_is (view c.advance.new.self) (view c.release-plan.new.self) c.release-plan.result _ _ c.in-Send.node c.in-Send.next (text_of c.in-Send.format c.in-Send.value) (g.L.Line.waiting c.args.line.now) (g.L.Line.waiting c.send-text.new.line) (g.L.Line.sent c.args.line.now) (g.L.Line.sent c.send-text.new.line) (g.L.Line.room c.args.line.now) (g.L.Line.room c.send-text.new.line)
-    (t.0 ∙ ap (λ (z : List ℕ). (g.L.Line.sent c.args.line.now) ++ z) b) (omega (arith, t.1, n)) c.if-send-text.ensures.kept.0 c.release-plan.ensures c.settle-then-send-text.ensures.latch c.settle-then-send-text.ensures.outcome) in
-    record { steps = e; laws = step-laws c.args.code.now (world (view c.args.self.now.core) c.args.self.now.latch (g.L.Line.waiting c.args.line.now) (g.L.Line.sent c.args.line.now) (g.L.Line.room c.args.line.now)) _ e; hold = held_at (g.L.Line.hold c.args.line.now) (g.L.Line.hold c.send-text.new.line) (g.L.Line.waiting c.args.line.now) (g.L.Line.waiting c.send-text.new.line) c.if-send-text.ensures.kept.1 }
+    (ap (λ (z : State). (world z c.settle-then-send_text.new.self.latch (g.L.Line.waiting c.send_text.new.line) (g.L.Line.sent c.send_text.new.line) (g.L.Line.room c.send_text.new.line), c.settle-then-send_text.result)) (ap view c.settle-then-send_text.ensures.core)
+    ∙ delivered_is (view c.advance.new.self) (view c.release-plan.new.self) c.release-plan.result _ _ c.in-Send.node c.in-Send.next (text_of c.in-Send.format c.in-Send.value) (g.L.Line.waiting c.args.line.now) (g.L.Line.waiting c.send_text.new.line) (g.L.Line.sent c.args.line.now) (g.L.Line.sent c.send_text.new.line) (g.L.Line.room c.args.line.now) (g.L.Line.room c.send_text.new.line)
+    (t.0 ∙ ap (λ (z : List ℕ). (g.L.Line.sent c.args.line.now) ++ z) b) (omega (arith, t.1, n)) c.if-send_text.ensures.kept.0 c.release-plan.ensures c.settle-then-send_text.ensures.latch c.settle-then-send_text.ensures.outcome) in
+    record { steps = e; laws = step-laws c.args.code.now (world (view c.args.self.now.core) c.args.self.now.latch (g.L.Line.waiting c.args.line.now) (g.L.Line.sent c.args.line.now) (g.L.Line.room c.args.line.now)) _ e; hold = held_at (g.L.Line.hold c.args.line.now) (g.L.Line.hold c.send_text.new.line) (g.L.Line.waiting c.args.line.now) (g.L.Line.waiting c.send_text.new.line) c.if-send_text.ensures.kept.1 }
 
-pub returns-else-send-text : goal.returns-else-send-text
-returns-else-send-text g c =
+pub returns-else-send_text : goal.returns-else-send_text
+returns-else-send_text g c =
     let f : SFits w16 c.in-Send.value = search rules in
     let m : bytes_of c.compose.result ≡ text_of c.in-Send.format c.in-Send.value = simp to_z-of_z at c.compose.ensures in
-    let b : c.as-bytes-in-Send.result.now ≡ text_of c.in-Send.format c.in-Send.value = c.as-bytes-in-Send.ensures ∙ m in
-    let n : length c.as-bytes-in-Send.result.now ≡ length (text_of c.in-Send.format c.in-Send.value) = ap length b in
-    let t = c.if-send-text.ensures.goes in
+    let b : c.as_bytes-in-Send.result.now ≡ text_of c.in-Send.format c.in-Send.value = c.as_bytes-in-Send.ensures ∙ m in
+    let n : length c.as_bytes-in-Send.result.now ≡ length (text_of c.in-Send.format c.in-Send.value) = ap length b in
+    let t = c.if-send_text.ensures.goes in
     let e =
     step_by c.args.code.now (view c.args.self.now.core) c.args.self.now.latch (g.L.Line.waiting c.args.line.now) (g.L.Line.sent c.args.line.now) (g.L.Line.room c.args.line.now) (view c.advance.new.self) (Send c.in-Send.format c.in-Send.value c.in-Send.node c.in-Send.next) _ c.in-Open.is c.in-Send.ensures
-    (undelivered_is (view c.advance.new.self) (view c.settle-else-send-text.new.self.core) _ _ c.in-Send.node c.in-Send.next (text_of c.in-Send.format c.in-Send.value) (g.L.Line.waiting c.args.line.now) (g.L.Line.waiting c.send-text.new.line) (g.L.Line.sent c.args.line.now) (g.L.Line.sent c.send-text.new.line) (g.L.Line.room c.args.line.now) (g.L.Line.room c.send-text.new.line)
-    (omega (arith, t.0, n)) t.1 t.2 c.if-send-text.ensures.kept.0 (ap view c.settle-else-send-text.ensures.core) c.settle-else-send-text.ensures.latch c.settle-else-send-text.ensures.outcome) in
-    record { steps = e; laws = step-laws c.args.code.now (world (view c.args.self.now.core) c.args.self.now.latch (g.L.Line.waiting c.args.line.now) (g.L.Line.sent c.args.line.now) (g.L.Line.room c.args.line.now)) _ e; hold = held_at (g.L.Line.hold c.args.line.now) (g.L.Line.hold c.send-text.new.line) (g.L.Line.waiting c.args.line.now) (g.L.Line.waiting c.send-text.new.line) c.if-send-text.ensures.kept.1 }
+    (undelivered_is (view c.advance.new.self) (view c.settle-else-send_text.new.self.core) _ _ c.in-Send.node c.in-Send.next (text_of c.in-Send.format c.in-Send.value) (g.L.Line.waiting c.args.line.now) (g.L.Line.waiting c.send_text.new.line) (g.L.Line.sent c.args.line.now) (g.L.Line.sent c.send_text.new.line) (g.L.Line.room c.args.line.now) (g.L.Line.room c.send_text.new.line)
+    (omega (arith, t.0, n)) t.1 t.2 c.if-send_text.ensures.kept.0 (ap view c.settle-else-send_text.ensures.core) c.settle-else-send_text.ensures.latch c.settle-else-send_text.ensures.outcome) in
+    record { steps = e; laws = step-laws c.args.code.now (world (view c.args.self.now.core) c.args.self.now.latch (g.L.Line.waiting c.args.line.now) (g.L.Line.sent c.args.line.now) (g.L.Line.room c.args.line.now)) _ e; hold = held_at (g.L.Line.hold c.args.line.now) (g.L.Line.hold c.send_text.new.line) (g.L.Line.waiting c.args.line.now) (g.L.Line.waiting c.send_text.new.line) c.if-send_text.ensures.kept.1 }
