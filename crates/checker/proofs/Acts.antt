@@ -15,7 +15,7 @@ use Rattle.language.specs.Tree.{Stmt, Block, Stmts, Signature, skip, assign, per
 use Rattle.language.specs.Listing.{Placed, count, list_e, list_a, list_c, list_s, list_b, list_ss}
 use Rattle.language.specs.Measures.{kind_of, format_kind, levels_s, levels_b, levels_ss, height_a, height_c, height_s, height_b, height_ss, words_a, words_c, words_s, words_b, words_ss}
 use Rattle.language.specs.Rules.{Env, slot_kind, called, parameter_kinds, is_open, FineS, FineB, FineSs}
-use Rattle.walk.specs.Walk.{Answer, arrived, as_act, as_block, called_at, no_result, judged, same_kind_lem, size, beside, topped, no_arguments, args_from, expr_from, cond_from, items_from, opens, leaves, exits, stmt_at, stmt_from, block_from}
+use Rattle.walk.specs.Walk.{Answer, arrived, as_act, as_block, called_at, no_result, judged, same_kind, size, beside, topped, no_arguments, args_from, expr_from, cond_from, items_from, opens, leaves, exits, stmt_at, stmt_from, block_from}
 use Rattle.walk.specs.declared.fault.CheckFault.TheVariants.{Nesting, Variable as NoVariable, Function as NoFunction, Loop as NoLoop, Exit as NoExit}
 use Rattle.walk.specs.declared.found.Size.{Size}
 use Rattle.walk.proofs.Steps.{stmt_step, block_step}
@@ -121,10 +121,10 @@ module _ (v : View) (small : Small v) (e : Env) (k : ℕ) (ns : List ℕ) (ih : 
   stmt_at_lem : (x : Statement) → Came v (suc k) i (Act x) → stmt_at e (expr_from v e k) (cond_from v e k) (block_from v e k) ns i x ≡ Ok (s, j) → StandsS v e (suc k) ns i s j
   stmt_at_lem Skip c h = record { tree = skip i; spells = (refl, c.there, c.shape, tt); ends = grind arith; fine = tt; is = grind arith; deep = omega arith }
   stmt_at_lem (Assign w x) c h =
-      let o = onward_ok (ok_or (slot_kind e.own e.main w x) (NoVariable i)) (λ q. onward (expr_from v e k (i + 1)) (λ p. judged i (same_kind_lem q p.0.kind) (topped p.0, p.1))) (s, j) h in
-      let u = onward_ok (expr_from v e k (i + 1)) (λ p. judged i (same_kind_lem o.0 p.0.kind) (topped p.0, p.1)) (s, j) o.2 in
+      let o = onward_ok (ok_or (slot_kind e.own e.main w x) (NoVariable i)) (λ q. onward (expr_from v e k (i + 1)) (λ p. judged i (same_kind q p.0.kind) (topped p.0, p.1))) (s, j) h in
+      let u = onward_ok (expr_from v e k (i + 1)) (λ p. judged i (same_kind o.0 p.0.kind) (topped p.0, p.1)) (s, j) o.2 in
       let a = expr_sound v e k (i + 1) u.0.0 u.0.1 u.1 in
-      let g = judged_ok i (same_kind_lem o.0 u.0.0.kind) (topped u.0.0, u.0.1) (s, j) u.2 in
+      let g = judged_ok i (same_kind o.0 u.0.0.kind) (topped u.0.0, u.0.1) (s, j) u.2 in
       let z : u.0.1 ≡ j = ap (λ y. y.1) g.1 in
       record {
         tree = assign i w x o.0 a.tree;
@@ -213,10 +213,10 @@ module _ (v : View) (small : Small v) (e : Env) (k : ℕ) (ns : List ℕ) (ih : 
       let g = exits_ok e.own.result i s j h in
       record { tree = exit i; spells = (refl, c.there, c.shape, tt); ends = g.2; fine = g.0; is = g.1; deep = omega arith }
   stmt_at_lem Return c h =
-      let o = onward_ok (ok_or e.own.result (NoExit i)) (λ q. onward (expr_from v e k (i + 1)) (λ p. judged i (same_kind_lem q p.0.kind) (topped p.0, p.1))) (s, j) h in
-      let u = onward_ok (expr_from v e k (i + 1)) (λ p. judged i (same_kind_lem o.0 p.0.kind) (topped p.0, p.1)) (s, j) o.2 in
+      let o = onward_ok (ok_or e.own.result (NoExit i)) (λ q. onward (expr_from v e k (i + 1)) (λ p. judged i (same_kind q p.0.kind) (topped p.0, p.1))) (s, j) h in
+      let u = onward_ok (expr_from v e k (i + 1)) (λ p. judged i (same_kind o.0 p.0.kind) (topped p.0, p.1)) (s, j) o.2 in
       let a = expr_sound v e k (i + 1) u.0.0 u.0.1 u.1 in
-      let g = judged_ok i (same_kind_lem o.0 u.0.0.kind) (topped u.0.0, u.0.1) (s, j) u.2 in
+      let g = judged_ok i (same_kind o.0 u.0.0.kind) (topped u.0.0, u.0.1) (s, j) u.2 in
       let z : u.0.1 ≡ j = ap (λ y. y.1) g.1 in
       record {
         tree = return i a.tree;
@@ -227,9 +227,9 @@ module _ (v : View) (small : Small v) (e : Env) (k : ℕ) (ns : List ℕ) (ih : 
         deep = omega (arith, a.deep);
       }
   stmt_at_lem (Write q) c h =
-      let u = onward_ok (expr_from v e k (i + 1)) (λ p. judged i (same_kind_lem (format_kind q) p.0.kind) (topped p.0, p.1)) (s, j) h in
+      let u = onward_ok (expr_from v e k (i + 1)) (λ p. judged i (same_kind (format_kind q) p.0.kind) (topped p.0, p.1)) (s, j) h in
       let a = expr_sound v e k (i + 1) u.0.0 u.0.1 u.1 in
-      let g = judged_ok i (same_kind_lem (format_kind q) u.0.0.kind) (topped u.0.0, u.0.1) (s, j) u.2 in
+      let g = judged_ok i (same_kind (format_kind q) u.0.0.kind) (topped u.0.0, u.0.1) (s, j) u.2 in
       let z : u.0.1 ≡ j = ap (λ y. y.1) g.1 in
       record {
         tree = write i q a.tree;

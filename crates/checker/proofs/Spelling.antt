@@ -13,7 +13,7 @@ use Rattle.table.specs.declared.shape.Statement.{Statement}
 use Rattle.table.specs.declared.shape.Shape.{Shape}
 use Rattle.table.specs.declared.shape.Shape.TheVariants.{Expression as Value, Condition as Test, Statement as Act, Block}
 use Rattle.language.specs.Listing.{Placed}
-use Rattle.walk.specs.Walk.{Answer, arrived, as_value, as_test, as_act, as_block, judged, same_kind_lem}
+use Rattle.walk.specs.Walk.{Answer, arrived, as_value, as_test, as_act, as_block, judged, same_kind}
 use Rattle.walk.specs.declared.fault.CheckFault.{CheckFault}
 use Rattle.walk.specs.declared.fault.CheckFault.TheVariants.{NoNode, Nesting, Field, Child}
 use Rattle.checker.specs.Spells.{Spells}
@@ -30,13 +30,13 @@ pub judged_ok : {A : Type 0} (i : ℕ) (b : Bool) (x y : A) → judged i b x ≡
 judged_ok i true x y h = (refl, grind arith)
 judged_ok i false x y h = absurd (grind arith)
 
-pub same_kind_lem : (a b : Kind) → same_kind_lem a b ≡ true → a ≡ b
+pub same_kind_lem : (a b : Kind) → same_kind a b ≡ true → a ≡ b
 same_kind_lem Int Int h = refl
 same_kind_lem Int Byte h = absurd (grind arith)
 same_kind_lem Byte Int h = absurd (grind arith)
 same_kind_lem Byte Byte h = refl
 
-pub kind_same : (a : Kind) → same_kind_lem a a ≡ true
+pub kind_same : (a : Kind) → same_kind a a ≡ true
 kind_same Int = refl
 kind_same Byte = refl
 

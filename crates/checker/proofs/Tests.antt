@@ -10,7 +10,7 @@ use Rattle.language.specs.Tree.{Cond, compare, negate, join, holds}
 use Rattle.language.specs.Listing.{Placed, list_e, list_c}
 use Rattle.language.specs.Measures.{kind_of, levels_c, height_c, words_c}
 use Rattle.language.specs.Rules.{Env, FineC}
-use Rattle.walk.specs.Walk.{arrived, as_test, judged, same_kind_lem, size, beside, stacked, topped, expr_from, cond_at, cond_from}
+use Rattle.walk.specs.Walk.{arrived, as_test, judged, same_kind, size, beside, stacked, topped, expr_from, cond_at, cond_from}
 use Rattle.walk.specs.declared.fault.CheckFault.TheVariants.{Nesting}
 use Rattle.walk.specs.declared.found.Size.{Size}
 use Rattle.walk.proofs.Steps.{cond_step}
@@ -33,11 +33,11 @@ pub record StandsC (v : View) (e : Env) (k i : ℕ) (s : Size) (j : ℕ) : Type 
 module _ (v : View) (e : Env) (k : ℕ) (ih : (i : ℕ) (s : Size) (j : ℕ) → cond_from v e k i ≡ Ok (s, j) → StandsC v e k i s j) (i : ℕ) (s : Size) (j : ℕ) where
   at-sound : (x : Condition) → Came v (suc k) i (Test x) → cond_at (expr_from v e k) (cond_from v e k) i x ≡ Ok (s, j) → StandsC v e (suc k) i s j
   at-sound (Compare m) c h =
-      let o = onward_ok (expr_from v e k (i + 1)) (λ p. onward (expr_from v e k p.1) (λ q. judged i (same_kind_lem p.0.kind q.0.kind) (stacked p.0 q.0, q.1))) (s, j) h in
-      let u = onward_ok (expr_from v e k o.0.1) (λ q. judged i (same_kind_lem o.0.0.kind q.0.kind) (stacked o.0.0 q.0, q.1)) (s, j) o.2 in
+      let o = onward_ok (expr_from v e k (i + 1)) (λ p. onward (expr_from v e k p.1) (λ q. judged i (same_kind p.0.kind q.0.kind) (stacked p.0 q.0, q.1))) (s, j) h in
+      let u = onward_ok (expr_from v e k o.0.1) (λ q. judged i (same_kind o.0.0.kind q.0.kind) (stacked o.0.0 q.0, q.1)) (s, j) o.2 in
       let x = expr_sound v e k (i + 1) o.0.0 o.0.1 o.1 in
       let y = expr_sound v e k o.0.1 u.0.0 u.0.1 u.1 in
-      let g = judged_ok i (same_kind_lem o.0.0.kind u.0.0.kind) (stacked o.0.0 u.0.0, u.0.1) (s, j) u.2 in
+      let g = judged_ok i (same_kind o.0.0.kind u.0.0.kind) (stacked o.0.0 u.0.0, u.0.1) (s, j) u.2 in
       let kx : kind_of x.tree ≡ o.0.0.kind = sym (ap (λ z. z.kind) x.is) in
       let ky : kind_of y.tree ≡ u.0.0.kind = sym (ap (λ z. z.kind) y.is) in
       let z : u.0.1 ≡ j = ap (λ w. w.1) g.1 in
@@ -73,9 +73,9 @@ module _ (v : View) (e : Env) (k : ℕ) (ih : (i : ℕ) (s : Size) (j : ℕ) →
         deep = omega (arith, x.deep, y.deep);
       }
   at-sound Holds c h =
-      let o = onward_ok (expr_from v e k (i + 1)) (λ p. judged i (same_kind_lem Byte p.0.kind) (topped p.0, p.1)) (s, j) h in
+      let o = onward_ok (expr_from v e k (i + 1)) (λ p. judged i (same_kind Byte p.0.kind) (topped p.0, p.1)) (s, j) h in
       let a = expr_sound v e k (i + 1) o.0.0 o.0.1 o.1 in
-      let g = judged_ok i (same_kind_lem Byte o.0.0.kind) (topped o.0.0, o.0.1) (s, j) o.2 in
+      let g = judged_ok i (same_kind Byte o.0.0.kind) (topped o.0.0, o.0.1) (s, j) o.2 in
       let z : o.0.1 ≡ j = ap (λ y. y.1) g.1 in
       record {
         tree = holds i a.tree;
@@ -107,10 +107,10 @@ cond_complete (compare p m q a c) v e k i f d h =
     let s = spells-left v (i + 1) (list_e a) (list_e c) h.3 in
     let y = expr_complete a v e (k - 1) (i + 1) f.0 (omega arith) s.0 in
     let z = expr_complete c v e (k - 1) (i + 1 + length (list_e a)) f.1 (omega arith) s.1 in
-    let t : same_kind_lem (kind_of a) (kind_of c) ≡ true = rw (f.2, f.3) (kind_same q) in
+    let t : same_kind (kind_of a) (kind_of c) ≡ true = rw (f.2, f.3) (kind_same q) in
     let w : i + 1 + length (list_e a) + length (list_e c) ≡ i + suc (length (list_e a ++ list_e c)) = simp length-append (omega arith) in
-    x ∙ ap (λ r. onward r (λ m. onward (expr_from v e (k - 1) m.1) (λ n. judged i (same_kind_lem m.0.kind n.0.kind) (stacked m.0 n.0, n.1)))) y
-    ∙ ap (λ r. onward r (λ n. judged i (same_kind_lem (kind_of a) n.0.kind) (stacked (found_of a) n.0, n.1))) z
+    x ∙ ap (λ r. onward r (λ m. onward (expr_from v e (k - 1) m.1) (λ n. judged i (same_kind m.0.kind n.0.kind) (stacked m.0 n.0, n.1)))) y
+    ∙ ap (λ r. onward r (λ n. judged i (same_kind (kind_of a) n.0.kind) (stacked (found_of a) n.0, n.1))) z
     ∙ ap (λ g. judged i g (stacked (found_of a) (found_of c), i + 1 + length (list_e a) + length (list_e c))) t
     ∙ ap (λ m. Ok (stacked (found_of a) (found_of c), m)) w
 cond_complete (negate p c) v e k i f d h =
@@ -129,7 +129,7 @@ cond_complete (join p m c b) v e k i f d h =
 cond_complete (holds p a) v e k i f d h =
     let x = entered v e k i p Holds (list_e a) (omega arith) h in
     let y = expr_complete a v e (k - 1) (i + 1) f.0 (omega arith) h.3 in
-    let s : same_kind_lem Byte (kind_of a) ≡ true = ap (λ q. same_kind_lem Byte q) f.1 in
+    let s : same_kind Byte (kind_of a) ≡ true = ap (λ q. same_kind Byte q) f.1 in
     let z : i + 1 + length (list_e a) ≡ i + suc (length (list_e a)) = omega arith in
-    x ∙ ap (λ r. onward r (λ w. judged i (same_kind_lem Byte w.0.kind) (topped w.0, w.1))) y
+    x ∙ ap (λ r. onward r (λ w. judged i (same_kind Byte w.0.kind) (topped w.0, w.1))) y
     ∙ ap (λ b. judged i b (topped (found_of a), i + 1 + length (list_e a))) s ∙ ap (λ w. Ok (topped (found_of a), w)) z

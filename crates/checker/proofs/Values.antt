@@ -17,7 +17,7 @@ use Rattle.language.specs.Tree.{Expr, Args, Signature, constant, variable, unary
 use Rattle.language.specs.Listing.{Placed, list_e, list_a}
 use Rattle.language.specs.Measures.{kind_of, operand_kind, unary_kind, unary_words, format_kind, levels_e, levels_a, height_e, height_a, words_e, words_a}
 use Rattle.language.specs.Rules.{Env, slot_kind, called, parameter_kinds, Operates, FineE, FineA}
-use Rattle.walk.specs.Walk.{Answer, arrived, as_value, called_at, with_result, judged, same_kind_lem, is_int, operates, found, size, sized, stacked, added, no_arguments, args_from, expr_at, expr_from}
+use Rattle.walk.specs.Walk.{Answer, arrived, as_value, called_at, with_result, judged, same_kind, is_int, operates, found, size, sized, stacked, added, no_arguments, args_from, expr_at, expr_from}
 use Rattle.walk.specs.declared.fault.CheckFault.{CheckFault}
 use Rattle.walk.specs.declared.fault.CheckFault.TheVariants.{Nesting, Variable as NoVariable, Function as NoFunction}
 use Rattle.walk.specs.declared.found.Found.{Found}
@@ -64,7 +64,7 @@ args-sound v e k ih (q ∷ ks) n a i r j t h =
     let o = onward_ok (expr_from v e k i) (λ p. args_from (expr_from v e k) ks (n + 1) (added a n q p.0) p.1) (r, j) h in
     let x = ih i o.0.0 o.0.1 o.1 in
     let s = args-sound v e k ih ks (n + 1) (added a n q o.0.0) o.0.1 r j t o.2 in
-    let b = and_parts a.fit (same_kind_lem q o.0.0.kind) s.before in
+    let b = and_parts a.fit (same_kind q o.0.0.kind) s.before in
     let hx : o.0.0.height ≡ height_e x.tree = ap (λ y. y.height) x.is in
     let wx : o.0.0.words ≡ words_e x.tree = ap (λ y. y.words) x.is in
     record {
@@ -93,8 +93,8 @@ operates_is Sub k h = refl
 operates_is Mul k h = refl
 operates_is Div k h = refl
 operates_is Rem k h = refl
-operates_is ByteAnd k h = ap (λ q. same_kind_lem Byte q) h
-operates_is ByteOr k h = ap (λ q. same_kind_lem Byte q) h
+operates_is ByteAnd k h = ap (λ q. same_kind Byte q) h
+operates_is ByteOr k h = ap (λ q. same_kind Byte q) h
 
 module _ (v : View) (e : Env) (k : ℕ) (ih : (i : ℕ) (f : Found) (j : ℕ) → expr_from v e k i ≡ Ok (f, j) → StandsE v e k i f j) (i : ℕ) (f : Found) (j : ℕ) where
   at-sound : (s : Expression) → Came v (suc k) i (Value s) → expr_at e (expr_from v e k) i s ≡ Ok (f, j) → StandsE v e (suc k) i f j
@@ -105,9 +105,9 @@ module _ (v : View) (e : Env) (k : ℕ) (ih : (i : ℕ) (f : Found) (j : ℕ) �
       let g = o.2 in
       record { tree = variable i s x o.0; spells = (refl, c.there, c.shape, tt); ends = grind arith; fine = ok_or_ok (slot_kind e.own e.main s x) (NoVariable i) o.0 o.1; is = grind arith; deep = omega arith }
   at-sound (OfOne u) c h =
-      let o = onward_ok (expr_from v e k (i + 1)) (λ p. judged i (same_kind_lem (operand_kind u) p.0.kind) (found (unary_kind u) p.0.height (p.0.words + unary_words u), p.1)) (f, j) h in
+      let o = onward_ok (expr_from v e k (i + 1)) (λ p. judged i (same_kind (operand_kind u) p.0.kind) (found (unary_kind u) p.0.height (p.0.words + unary_words u), p.1)) (f, j) h in
       let a = ih (i + 1) o.0.0 o.0.1 o.1 in
-      let g = judged_ok i (same_kind_lem (operand_kind u) o.0.0.kind) (found (unary_kind u) o.0.0.height (o.0.0.words + unary_words u), o.0.1) (f, j) o.2 in
+      let g = judged_ok i (same_kind (operand_kind u) o.0.0.kind) (found (unary_kind u) o.0.0.height (o.0.0.words + unary_words u), o.0.1) (f, j) o.2 in
       let z : o.0.1 ≡ j = ap (λ y. y.1) g.1 in
       record {
         tree = unary i u a.tree;
@@ -118,12 +118,12 @@ module _ (v : View) (e : Env) (k : ℕ) (ih : (i : ℕ) (f : Found) (j : ℕ) �
         deep = omega (arith, a.deep);
       }
   at-sound (OfTwo b) c h =
-      let o = onward_ok (expr_from v e k (i + 1)) (λ p. onward (expr_from v e k p.1) (λ q. judged i (same_kind_lem p.0.kind q.0.kind && operates b p.0.kind) (sized p.0.kind (stacked p.0 q.0), q.1))) (f, j) h in
-      let u = onward_ok (expr_from v e k o.0.1) (λ q. judged i (same_kind_lem o.0.0.kind q.0.kind && operates b o.0.0.kind) (sized o.0.0.kind (stacked o.0.0 q.0), q.1)) (f, j) o.2 in
+      let o = onward_ok (expr_from v e k (i + 1)) (λ p. onward (expr_from v e k p.1) (λ q. judged i (same_kind p.0.kind q.0.kind && operates b p.0.kind) (sized p.0.kind (stacked p.0 q.0), q.1))) (f, j) h in
+      let u = onward_ok (expr_from v e k o.0.1) (λ q. judged i (same_kind o.0.0.kind q.0.kind && operates b o.0.0.kind) (sized o.0.0.kind (stacked o.0.0 q.0), q.1)) (f, j) o.2 in
       let x = ih (i + 1) o.0.0 o.0.1 o.1 in
       let y = ih o.0.1 u.0.0 u.0.1 u.1 in
-      let g = judged_ok i (same_kind_lem o.0.0.kind u.0.0.kind && operates b o.0.0.kind) (sized o.0.0.kind (stacked o.0.0 u.0.0), u.0.1) (f, j) u.2 in
-      let t = and_parts (same_kind_lem o.0.0.kind u.0.0.kind) (operates b o.0.0.kind) g.0 in
+      let g = judged_ok i (same_kind o.0.0.kind u.0.0.kind && operates b o.0.0.kind) (sized o.0.0.kind (stacked o.0.0 u.0.0), u.0.1) (f, j) u.2 in
+      let t = and_parts (same_kind o.0.0.kind u.0.0.kind) (operates b o.0.0.kind) g.0 in
       let kx : kind_of x.tree ≡ o.0.0.kind = sym (ap (λ z. z.kind) x.is) in
       let ky : kind_of y.tree ≡ u.0.0.kind = sym (ap (λ z. z.kind) y.is) in
       let z : u.0.1 ≡ j = ap (λ w. w.1) g.1 in
@@ -179,19 +179,19 @@ mutual
   expr_complete (unary p u a) v e k i f d h =
       let x = entered v e k i p (OfOne u) (list_e a) (omega arith) h in
       let y = expr_complete a v e (k - 1) (i + 1) f.0 (omega arith) h.3 in
-      let s : same_kind_lem (operand_kind u) (kind_of a) ≡ true = ap (λ q. same_kind_lem (operand_kind u) q) f.1 ∙ kind_same (operand_kind u) in
+      let s : same_kind (operand_kind u) (kind_of a) ≡ true = ap (λ q. same_kind (operand_kind u) q) f.1 ∙ kind_same (operand_kind u) in
       let z : i + 1 + length (list_e a) ≡ i + suc (length (list_e a)) = omega arith in
-      x ∙ ap (λ r. onward r (λ w. judged i (same_kind_lem (operand_kind u) w.0.kind) (found (unary_kind u) w.0.height (w.0.words + unary_words u), w.1))) y
+      x ∙ ap (λ r. onward r (λ w. judged i (same_kind (operand_kind u) w.0.kind) (found (unary_kind u) w.0.height (w.0.words + unary_words u), w.1))) y
       ∙ ap (λ b. judged i b (found_of (unary p u a), i + 1 + length (list_e a))) s ∙ ap (λ w. Ok (found_of (unary p u a), w)) z
   expr_complete (binary p b q a c) v e k i f d h =
       let x = entered v e k i p (OfTwo b) (list_e a ++ list_e c) (omega arith) h in
       let s = spells-left v (i + 1) (list_e a) (list_e c) h.3 in
       let y = expr_complete a v e (k - 1) (i + 1) f.0 (omega arith) s.0 in
       let z = expr_complete c v e (k - 1) (i + 1 + length (list_e a)) f.1 (omega arith) s.1 in
-      let t : (same_kind_lem (kind_of a) (kind_of c) && operates b (kind_of a)) ≡ true = rw (f.2, f.3, kind_same q) (operates_is b q f.4) in
+      let t : (same_kind (kind_of a) (kind_of c) && operates b (kind_of a)) ≡ true = rw (f.2, f.3, kind_same q) (operates_is b q f.4) in
       let w : i + 1 + length (list_e a) + length (list_e c) ≡ i + suc (length (list_e a ++ list_e c)) = simp length-append (omega arith) in
-      x ∙ ap (λ r. onward r (λ m. onward (expr_from v e (k - 1) m.1) (λ n. judged i (same_kind_lem m.0.kind n.0.kind && operates b m.0.kind) (sized m.0.kind (stacked m.0 n.0), n.1)))) y
-      ∙ ap (λ r. onward r (λ n. judged i (same_kind_lem (kind_of a) n.0.kind && operates b (kind_of a)) (sized (kind_of a) (stacked (found_of a) n.0), n.1))) z
+      x ∙ ap (λ r. onward r (λ m. onward (expr_from v e (k - 1) m.1) (λ n. judged i (same_kind m.0.kind n.0.kind && operates b m.0.kind) (sized m.0.kind (stacked m.0 n.0), n.1)))) y
+      ∙ ap (λ r. onward r (λ n. judged i (same_kind (kind_of a) n.0.kind && operates b (kind_of a)) (sized (kind_of a) (stacked (found_of a) n.0), n.1))) z
       ∙ ap (λ g. judged i g (sized (kind_of a) (stacked (found_of a) (found_of c)), i + 1 + length (list_e a) + length (list_e c))) t
       ∙ ap (λ m. Ok (sized m (stacked (found_of a) (found_of c)), i + 1 + length (list_e a) + length (list_e c))) f.2
       ∙ ap (λ m. Ok (found_of (binary p b q a c), m)) w
@@ -224,7 +224,7 @@ mutual
       let s = spells-left v i (list_e t) (list_a xs) h in
       let y = expr_complete t v e k i f.0 (omega arith) s.0 in
       let z = args-complete xs v e k ks (n + 1) (added a n q (found_of t)) (i + length (list_e t)) f.2 (omega arith) s.1 in
-      let b : (a.fit && same_kind_lem q (kind_of t)) ≡ a.fit = rw (f.1, kind_same q) (and_true a.fit) in
+      let b : (a.fit && same_kind q (kind_of t)) ≡ a.fit = rw (f.1, kind_same q) (and_true a.fit) in
       let hh : max (max a.size.height (n + height_e t)) (height_a (n + 1) xs) ≡ max a.size.height (height_a n (more t xs)) = omega arith in
       let ww : a.size.words + words_e t + words_a xs ≡ a.size.words + words_a (more t xs) = omega arith in
       let w : i + length (list_e t) + length (list_a xs) ≡ i + length (list_e t ++ list_a xs) = simp length-append (omega arith) in

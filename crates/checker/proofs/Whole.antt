@@ -12,7 +12,7 @@ use Rattle.language.specs.Tree.{Expr, Stmt, Block, Stmts, skip, assign, perform,
 use Rattle.language.specs.Listing.{Placed, count, list_e, list_a, list_c, list_s, list_b, list_ss}
 use Rattle.language.specs.Measures.{kind_of, format_kind, levels_e, levels_s, levels_b, levels_ss, height_a, height_s, height_ss, words_a, words_s, words_ss}
 use Rattle.language.specs.Rules.{Env, FineE, parameter_kinds, is_open, FineS, FineB, FineSs}
-use Rattle.walk.specs.Walk.{Answer, arrived, as_act, as_block, no_result, judged, same_kind_lem, size, beside, topped, no_arguments, args_from, expr_from, cond_from, items_from, opens, leaves, exits, stmt_at, stmt_from, block_from}
+use Rattle.walk.specs.Walk.{Answer, arrived, as_act, as_block, no_result, judged, same_kind, size, beside, topped, no_arguments, args_from, expr_from, cond_from, items_from, opens, leaves, exits, stmt_at, stmt_from, block_from}
 use Rattle.walk.specs.declared.fault.CheckFault.TheVariants.{Variable as NoVariable, Function as NoFunction, Loop as NoLoop, Exit as NoExit}
 use Rattle.walk.specs.declared.found.Size.{Size}
 use Rattle.walk.proofs.Steps.{stmt_step, block_step}
@@ -37,12 +37,12 @@ module _ (v : View) (e : Env) where
 
   -- a node with one expression below it, of the kind that it asks for
   one_value : (k i : ℕ) (q : Kind) (a : Expr) → FineE e a → levels_e a ≤ k → kind_of a ≡ q → Spells v (i + 1) (list_e a) →
-      onward {B = Size × ℕ} (expr_from v e k (i + 1)) (λ p. judged i (same_kind_lem q p.0.kind) (topped p.0, p.1)) ≡ Ok (topped (found_of a), i + suc (length (list_e a)))
+      onward {B = Size × ℕ} (expr_from v e k (i + 1)) (λ p. judged i (same_kind q p.0.kind) (topped p.0, p.1)) ≡ Ok (topped (found_of a), i + suc (length (list_e a)))
   one_value k i q a f d g h =
       let y = expr_complete a v e k (i + 1) f d h in
-      let s : same_kind_lem q (kind_of a) ≡ true = ap (λ x. same_kind_lem q x) g ∙ kind_same q in
+      let s : same_kind q (kind_of a) ≡ true = ap (λ x. same_kind q x) g ∙ kind_same q in
       let z : i + 1 + length (list_e a) ≡ i + suc (length (list_e a)) = omega arith in
-      ap (λ r. onward r (λ p. judged i (same_kind_lem q p.0.kind) (topped p.0, p.1))) y
+      ap (λ r. onward r (λ p. judged i (same_kind q p.0.kind) (topped p.0, p.1))) y
       ∙ ap (λ b. judged i b (topped (found_of a), i + 1 + length (list_e a))) s ∙ ap (λ w. Ok (topped (found_of a), w)) z
 
   mutual
@@ -51,7 +51,7 @@ module _ (v : View) (e : Env) where
     stmt_complete (skip p) k ns i f d h = stmt_entered k ns i p Skip [] d h
     stmt_complete (assign p w x q a) k ns i f d h =
         stmt_entered k ns i p (Assign w x) (list_e a) (omega arith) h
-        ∙ ap (λ r. onward (ok_or r (NoVariable i)) (λ n. onward (expr_from v e (k - 1) (i + 1)) (λ p. judged i (same_kind_lem n p.0.kind) (topped p.0, p.1)))) f.0
+        ∙ ap (λ r. onward (ok_or r (NoVariable i)) (λ n. onward (expr_from v e (k - 1) (i + 1)) (λ p. judged i (same_kind n p.0.kind) (topped p.0, p.1)))) f.0
         ∙ one_value (k - 1) i q a f.1 (omega arith) f.2 h.3
     stmt_complete (perform p m xs) k ns i f d h =
         let y = args-complete xs v e (k - 1) (parameter_kinds f.0) 0 no_arguments (i + 1) f.3 (omega arith) h.3 in
@@ -98,7 +98,7 @@ module _ (v : View) (e : Env) where
     stmt_complete (exit p) k ns i f d h = stmt_entered k ns i p Exit [] d h ∙ ap (λ q. exits q i) f
     stmt_complete (return p a) k ns i f d h =
         stmt_entered k ns i p Return (list_e a) (omega arith) h
-        ∙ ap (λ r. onward (ok_or r (NoExit i)) (λ n. onward (expr_from v e (k - 1) (i + 1)) (λ p. judged i (same_kind_lem n p.0.kind) (topped p.0, p.1)))) f.0
+        ∙ ap (λ r. onward (ok_or r (NoExit i)) (λ n. onward (expr_from v e (k - 1) (i + 1)) (λ p. judged i (same_kind n p.0.kind) (topped p.0, p.1)))) f.0
         ∙ one_value (k - 1) i (kind_of a) a f.1 (omega arith) refl h.3
     stmt_complete (write p q a) k ns i f d h =
         stmt_entered k ns i p (Write q) (list_e a) (omega arith) h ∙ one_value (k - 1) i (format_kind q) a f.0 (omega arith) f.1 h.3
