@@ -4,7 +4,7 @@ use Rattle.checker.proofs.check.check_table.Goals as goal
 pub returns : goal.returns
 returns c =
     record {
-      walked = c.walk-table.ensures;
-      exact = exactly c.args.bytes.now c.walk-table.result c.read-through.ensures c.walk-table.ensures;
-      long = at_most c.args.bytes.now c.walk-table.result c.walk-table.ensures;
+      walked = c.walk_table.ensures;
+      exact = exactly c.args.bytes.now c.walk_table.result c.read_through.ensures c.walk_table.ensures;
+      long = at_most c.args.bytes.now c.walk_table.result c.walk_table.ensures;
     }

@@ -4,7 +4,7 @@ use Rattle.std.proofs.lemmas.Bool.{cases_lt}
 use Rattle.checker.proofs.check.read_through.Goals as goal
 
 pub loop-b-preserved : goal.loop-b-preserved
-loop-b-preserved c = below_more _ _ c.loop-b.invariant c.below-256.ensures
+loop-b-preserved c = below_more _ _ c.loop-b.invariant c.below_256.ensures
 
 pub returns : goal.returns
 returns c = λ p. at p (cases_lt p (length c.args.bytes.now))

@@ -4,5 +4,5 @@ use Rattle.checker.specs.Held.{smallest}
 use Rattle.checker.proofs.Passes.{passes_at, smallest-passes}
 use Rattle.checker.proofs.program.Program.new.Goals as goal
 
-pub invariant-of-result : goal.invariant-of-result
-invariant-of-result c = (omega arith, (passes_at (checked smallest) (record { functions = 1; nodes = 2; words = 2 }) smallest-passes, tt))
+pub invariant_of-result : goal.invariant_of-result
+invariant_of-result c = record { fits = omega arith; passes = passes_at (checked smallest) (record { functions = 1; nodes = 2; words = 2 }) smallest-passes }

@@ -12,11 +12,11 @@ front a t r e = ap (λ x. take (length t) (x ++ r)) e ∙ take_at t r (length t)
 passing : (a t r : List ℕ) (p : Passed) → a ≡ t → Ok p ≡ checked t → checked (take (length t) (a ++ r)) ≡ Ok p
 passing a t r p e h = ap checked (front a t r e) ∙ sym h
 
-pub invariant-of-self : goal.invariant-of-self
-invariant-of-self c = (
-  c.in-ok-passed.ensures.long,
-  (passes_at _ c.in-ok-passed.passed (passing _ _ _ _ c.copy-from-slice.ensures.after c.in-ok-passed.ensures.walked), tt),
-)
+pub invariant_of-self : goal.invariant_of-self
+invariant_of-self c = record {
+      fits = c.in_ok-passed.ensures.long;
+      passes = passes_at _ c.in_ok-passed.passed (passing _ _ _ _ c.copy_from_slice.ensures.after c.in_ok-passed.ensures.walked);
+    }
 
 pub returns : goal.returns
-returns c = record { outcome = c.in-ok-passed.ensures.walked; held = front _ _ _ c.copy-from-slice.ensures.after }
+returns c = record { outcome = c.in_ok-passed.ensures.walked; held = front _ _ _ c.copy_from_slice.ensures.after }
