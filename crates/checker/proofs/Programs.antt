@@ -6,7 +6,7 @@ use Rattle.std.proofs.lemmas.Bool.{cases_lt, ne_eqb, le-ltb, lt-ltb}
 use Rattle.std.proofs.ByRecursion.{All-append}
 use Rattle.std.proofs.lemmas.List.FromFn.{length-map-range_with_len}
 use Rattle.std.proofs.lemmas.Option.{slice_get_past}
-use Rattle.std.specs.List.{AllByRecursion as All, slice_get}
+use Rattle.std.specs.List.{AllByRecursion, slice_get}
 use Rattle.table.specs.Flow.{mapped}
 use Rattle.table.specs.Fields.{function_at, variables_of, kind_bit}
 use Rattle.table.specs.Shapes.{shape_of, node_of}
@@ -33,7 +33,7 @@ pub numbered-from : (v : View) (i : ℕ) (xs : List Placed) → Spells v i xs �
 numbered-from v i [] h = tt
 numbered-from v i (x ∷ xs) h = (h.0, numbered-from v (i + 1) xs h.3)
 
-pub spells-from : (v : View) (i : ℕ) (xs : List Placed) → Stored v i xs → Numbered i xs → All Fits xs → Spells v i xs
+pub spells-from : (v : View) (i : ℕ) (xs : List Placed) → Stored v i xs → Numbered i xs → AllByRecursion Fits xs → Spells v i xs
 spells-from v i [] s n f = tt
 spells-from v i (x ∷ xs) s n f =
     (n.0, s.0, ap shape_of s.1 ∙ encoded x.1 f.0, spells-from v (i + 1) xs s.2 n.1 f.1)
@@ -104,16 +104,16 @@ program-bodied v (g ∷ gs) same fine h =
           (λ x. let q : 1 + x ≡ suc x = omega arith in ap (slice_get (signatures (g ∷ gs))) q) fine.3 s.1,
     )
 
-others_fit : (P : Program) (m : Signature) (gs : List Function) → FineOthers P m gs → All Fits (list_p gs)
+others_fit : (P : Program) (m : Signature) (gs : List Function) → FineOthers P m gs → AllByRecursion Fits (list_p gs)
 others_fit P m [] f = tt
 others_fit P m (g ∷ gs) f = All-append Fits (list_b g.body) (list_p gs) (fits_b (other_env P m g.signature) [] g.body f.0.body-fine) (others_fit P m gs f.1)
 
-pub program_fits : (P : Program) → FineFunctions P → All Fits (list_p P)
+pub program_fits : (P : Program) → FineFunctions P → AllByRecursion Fits (list_p P)
 program_fits [] f = absurd f
 program_fits (g ∷ gs) f =
     All-append Fits (list_b g.body) (list_p gs) (fits_b (main_env (g ∷ gs) g.signature) [] g.body f.2.body-fine) (others_fit (g ∷ gs) g.signature gs f.3)
 
-others-signed : (P : Program) (m : Signature) (gs : List Function) → FineOthers P m gs → All FineSignature (signatures gs)
+others-signed : (P : Program) (m : Signature) (gs : List Function) → FineOthers P m gs → AllByRecursion FineSignature (signatures gs)
 others-signed P m [] f = tt
 others-signed P m (g ∷ gs) f = (f.0.record_fine, others-signed P m gs f.1)
 

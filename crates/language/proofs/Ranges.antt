@@ -1,6 +1,6 @@
 -- Values keep to their kinds: one induction over the meaning of a program that keeps the rules.
 use Rattle.std.proofs.Common.{◌≡◌, ℕ, zero, suc, ◌<◌, Bool, true, false, cond, ltb, leb, List, [], ◌∷◌, map, length, get_or, take, set, ℤ, pos, Some, None, Option, refl, arith}
-use Rattle.std.specs.List.{AllByRecursion as All, slice_get}
+use Rattle.std.specs.List.{AllByRecursion, slice_get}
 use Rattle.std.proofs.ByRecursion.{All-drop}
 use Rattle.std.proofs.lemmas.Bool.{ne_eqb}
 use Rattle.table.specs.declared.shape.Kind.{Kind}
@@ -33,7 +33,7 @@ last_row ks (r ∷ rs) = last_row r rs
 pub record Shaped (ks : List Kind) (kss : List (List Kind)) (s : State) : Type 0 where
   pub own : Fitting ks s.own
   pub callers : RowsFit kss s.callers
-  pub bytes : All (λ b. b < 256) s.waiting
+  pub bytes : AllByRecursion (λ b. b < 256) s.waiting
 
 pub get_fits : (ks : List Kind) (vs : List ℤ) (x : ℕ) (k : Kind) → Fitting ks vs → slice_get ks x ≡ Some k → IsOf k (get_or vs x (pos 0))
 get_fits [] [] x k h e = of_zero k
@@ -238,7 +238,7 @@ module _ (mk : List Kind) where
   caller_r : {vars ks : List Kind} {kss : List (List Kind)} (o : Option Kind) {k : ℤ → Rest} → ((v : ℤ) → ResultOf o v → Ranged ks kss (k v)) → (v : ℤ) → ResultOf o v → Ranged vars (ks ∷ kss) (to_caller k v)
   caller_r {vars} {ks} {kss} o {k} K v w = record { go = λ s S n. backs s.callers s S.callers S.bytes n }
     where
-      backs : (cs : List (List ℤ)) (s : State) → RowsFit (ks ∷ kss) cs → All (λ b. b < 256) s.waiting → (n : ℕ) → KindsKept mk (back cs (k v) s n)
+      backs : (cs : List (List ℤ)) (s : State) → RowsFit (ks ∷ kss) cs → AllByRecursion (λ b. b < 256) s.waiting → (n : ℕ) → KindsKept mk (back cs (k v) s n)
       backs [] s g b n = absurd g
       backs (c ∷ cs) s g b n = (K v w).go (closed c cs s) (record { own = g.0; callers = g.1; bytes = b }) n
 
@@ -262,7 +262,7 @@ module _ (m : Function) (fs : List Function) (fine : FineOthers (m ∷ fs) m.sig
             (record { own = fill_fits f.signature.variables f.signature.parameters vs (rw q.0 h); callers = (S.own, S.callers); bytes = S.bytes }) n;
       }
 
-by-main : (P : Program) → FineFunctions P → (bytes : List ℕ) → All (λ b. b < 256) bytes → (room n : ℕ) → KindsKept (function_at P 0).signature.variables (walk P n (start P bytes room) n)
+by-main : (P : Program) → FineFunctions P → (bytes : List ℕ) → AllByRecursion (λ b. b < 256) bytes → (room n : ℕ) → KindsKept (function_at P 0).signature.variables (walk P n (start P bytes room) n)
 unfolding walk
 by-main [] h bytes small room n = absurd h
 by-main (m ∷ fs) h bytes small room n =

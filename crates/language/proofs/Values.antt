@@ -1,7 +1,7 @@
 -- What operators, constants and reads give is a number of its kind.
 use Rattle.std.proofs.Common.{◌≡◌, ℕ, ◌+◌, ◌<◌, Bool, true, false, cond, ltb, List, [], ◌∷◌, length, take, ℤ, pos, Some, None, Option, refl, arith}
 use lib.Signed.{quot_z, rem_z}
-use Rattle.std.specs.List.{AllByRecursion as All}
+use Rattle.std.specs.List.{AllByRecursion}
 use Rattle.std.proofs.lemmas.Int.{ints}
 use Rattle.table.specs.declared.shape.Kind.{Kind}
 use Rattle.table.specs.declared.shape.Kind.TheVariants.{Int, Byte}
@@ -101,7 +101,7 @@ of-reading : (k : NumberKind) (bytes : List ℕ) → ReadOf k (reading k bytes)
 unfolding reading
 of-reading k bytes = of-judged k bytes (feed_among 8 bytes)
 
-pub of-read : (q : Format) (bytes : List ℕ) → All (λ b. b < 256) bytes → ReadOf (numbers_of (format_kind q)) (finds q bytes)
+pub of-read : (q : Format) (bytes : List ℕ) → AllByRecursion (λ b. b < 256) bytes → ReadOf (numbers_of (format_kind q)) (finds q bytes)
 of-read Integer bytes l = of-reading int bytes
 of-read ByteText bytes l = of-reading byte bytes
 of-read Char [] l = tt

@@ -1,6 +1,6 @@
 -- That values keep to their kinds in a program that keeps the rules.
 use Rattle.std.specs.Prelude.{ℕ, ◌<◌, List, [], ◌∷◌, ℤ}
-use Rattle.std.specs.List.{AllByRecursion as All}
+use Rattle.std.specs.List.{AllByRecursion}
 use Rattle.table.specs.declared.shape.Kind.{Kind}
 use Rattle.number.specs.Number.{Within}
 use Rattle.language.specs.Tree.{Program}
@@ -32,4 +32,4 @@ KindsKept kinds (h ▷ r) = KindsKept kinds r
 -- whatever bytes are fed.
 abbrev pub ValuesInRange : Type 0
 ValuesInRange =
-    (P : Program) → Keeps P → (bytes : List ℕ) → All (λ b. b < 256) bytes → (room n : ℕ) → KindsKept (function_at P 0).signature.variables (meaning P (start P bytes room) n)
+    (P : Program) → Keeps P → (bytes : List ℕ) → AllByRecursion (λ b. b < 256) bytes → (room n : ℕ) → KindsKept (function_at P 0).signature.variables (meaning P (start P bytes room) n)

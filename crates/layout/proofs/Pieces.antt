@@ -1,6 +1,6 @@
 -- Lists place by place, and a list joined from pieces of one length.
 use Rattle.std.proofs.Common.{◌≡◌, ℕ, zero, suc, ◌+◌, ◌-◌, ◌*◌, ◌<◌, ◌≤◌, List, [], ◌∷◌, length, get_or, Some, None, sym, ap, ◌∙◌, mul-zero, mul-suc, arith}
-use Rattle.std.specs.List.{flat_map, AllByRecursion as All, slice_get, range_with_len}
+use Rattle.std.specs.List.{flat_map, AllByRecursion, slice_get, range_with_len}
 use Rattle.std.proofs.lemmas.List.{length-append, get_or_append_left, get_or-append_right}
 use Rattle.std.proofs.lemmas.List.FromFn.{length-range_with_len, get_or-range_with_len}
 use Rattle.std.proofs.lemmas.Option.{slice_get-get_or}
@@ -10,7 +10,7 @@ use Rattle.std.proofs.ByRecursion.{All-get_or}
 abbrev pub At : List ℕ → ℕ → ℕ → List ℕ → Type 0
 At bs q n xs = (j : ℕ) → j < n → get_or bs (q + j) 0 ≡ get_or xs j 0
 
-pub at_each : (bs : List ℕ) (q n : ℕ) (xs : List ℕ) → All (λ j. get_or bs (q + j) 0 ≡ get_or xs j 0) (range_with_len 0 n) → At bs q n xs
+pub at_each : (bs : List ℕ) (q n : ℕ) (xs : List ℕ) → AllByRecursion (λ j. get_or bs (q + j) 0 ≡ get_or xs j 0) (range_with_len 0 n) → At bs q n xs
 at_each bs q n xs h j l =
     let e : get_or (range_with_len 0 n) j 0 ≡ j = omega (arith, get_or-range_with_len 0 n j 0 l) in
     rw e at (All-get_or (λ j. get_or bs (q + j) 0 ≡ get_or xs j 0) (range_with_len 0 n) j 0 (omega (arith, length-range_with_len 0 n)) h)
@@ -25,7 +25,7 @@ nth_none [] i h = omega arith
 nth_none (y ∷ ys) zero h = absurd (grind arith)
 nth_none (y ∷ ys) (suc i) h = omega (arith, nth_none ys i h)
 
-pub all-nth : {X : Type 0} (P : X → Type 0) (xs : List X) (i : ℕ) (x : X) → All P xs → slice_get xs i ≡ Some x → P x
+pub all-nth : {X : Type 0} (P : X → Type 0) (xs : List X) (i : ℕ) (x : X) → AllByRecursion P xs → slice_get xs i ≡ Some x → P x
 all-nth P xs i x a h =
     let l = nth-within xs i x h in
     let e : get_or xs i x ≡ x = cc (slice_get-get_or xs i x l) in

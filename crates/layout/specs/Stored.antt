@@ -1,6 +1,6 @@
 -- What a program's table says of its functions and nodes, and that nothing else says so.
 use Rattle.std.specs.Prelude.{◌≡◌, ℕ, ◌+◌, ◌<◌, ◌≤◌, List, [], ◌∷◌, length, Some, None, Ok, Option, slice_index}
-use Rattle.std.specs.List.{AllByRecursion as All, slice_get}
+use Rattle.std.specs.List.{AllByRecursion, slice_get}
 use Rattle.table.specs.Fields.{layout_of, function_at}
 use Rattle.table.specs.Shapes.{node_of}
 use Rattle.table.specs.View.{View, node_at}
@@ -30,7 +30,7 @@ pub record Limits (P : Program) : Type 0 where
   pub few : length P ≤ 32
   pub some : 0 < length (list_p P)
   pub short : length (list_p P) ≤ 8192
-  pub fine : All FineSignature (signatures P)
+  pub fine : AllByRecursion FineSignature (signatures P)
   pub plain : Plain (signatures P)
 
 -- its table is read as it

@@ -1,6 +1,6 @@
 -- The simulation of a whole program, from the machine's first step on.
 use Rattle.std.proofs.Common.{◌≡◌, ℕ, zero, suc, ◌-◌, ◌<◌, max, false, List, [], ◌∷◌, length, None, sym, refl, ap, ◌∙◌, subst, arith}
-use Rattle.std.specs.List.{AllByRecursion as All}
+use Rattle.std.specs.List.{AllByRecursion}
 use Rattle.number.specs.declared.text.Reading.{Reading}
 use Rattle.number.specs.declared.text.Reading.TheVariants.{Wait, Refused, Took}
 use Rattle.machine.specs.declared.plan.Plan.{Plan}
@@ -68,7 +68,7 @@ begun_is : (code : List ℕ) (x : Act) (xs : List Act) (p : ℕ) → fetched cod
 unfolding advanced
 begun_is code x xs p = refl
 
-module _ (m : Function) (fs : List Function) (keeps : Keeps (m ∷ fs)) (code : List ℕ) (begin : Begins (m ∷ fs) code) (bytes : List ℕ) (small : All (λ b. b < 256) bytes) (out : List ℕ) (room : ℕ) where
+module _ (m : Function) (fs : List Function) (keeps : Keeps (m ∷ fs)) (code : List ℕ) (begin : Begins (m ∷ fs) code) (bytes : List ℕ) (small : AllByRecursion (λ b. b < 256) bytes) (out : List ℕ) (room : ℕ) where
   abbrev at0 : ℕ
   at0 = address code m fs keeps begin 0
 

@@ -1,6 +1,6 @@
 -- What a machine reports over its steps, in the words of the meaning, and how the two belong together.
 use Rattle.std.specs.Prelude.{◌≡◌, ℕ, zero, suc, ◌-◌, ◌<◌, ◌≤◌, cond, List, ◌++◌, length, take, drop, nat_lt}
-use Rattle.std.specs.List.{AllByRecursion as All}
+use Rattle.std.specs.List.{AllByRecursion}
 use Rattle.machine.specs.declared.plan.Latch.TheVariants.{Open}
 use Rattle.machine.specs.declared.plan.Outcome.{Outcome}
 use Rattle.machine.specs.declared.plan.Outcome.TheVariants.{Went as Stepped, Waits, Ended, Failed}
@@ -53,4 +53,4 @@ pub record Simulates (P : Program) (code bytes out : List ℕ) (room : ℕ) : Ty
 -- It does so for every program that keeps the rules, every code that begins with its translation, and every line.
 abbrev pub Simulation : Type 0
 Simulation =
-    (P : Program) → Keeps P → (code : List ℕ) → Begins P code → (bytes : List ℕ) → All (λ b. b < 256) bytes → (out : List ℕ) (room : ℕ) → Simulates P code bytes out room
+    (P : Program) → Keeps P → (code : List ℕ) → Begins P code → (bytes : List ℕ) → AllByRecursion (λ b. b < 256) bytes → (out : List ℕ) (room : ℕ) → Simulates P code bytes out room

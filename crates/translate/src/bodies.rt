@@ -29,13 +29,20 @@ fn context(t: &Table, f: usize) -> Context
     Context { own, main }
 }
 
+// The levels of blocks that a body may have: told by a clause, since the number itself would have them all computed.
+fn levels() -> u8
+    ensures { result ≡ 128 }
+{
+    128
+}
+
 // The words of the body at a node, and the next node's place.
 fn body_size(t: &Table, cx: &Context, at: u16) -> (usize, u16)
     requires few { words_b (body_at (view t.now) cx.now at).0 ≤ 65535 }
     ensures words { result.0 ≡ words_b (body_at (view t.now) cx.now at).0 }
     ensures next { result.1 ≡ (body_at (view t.now) cx.now at).1 }
 {
-    block_size(t, cx, at, 128)
+    block_size(t, cx, at, levels())
 }
 
 // Writes the words of the body at a node and its closing word from `here` on: the place behind them, and the next
@@ -48,7 +55,7 @@ fn body(t: &Table, cx: &Context, at: u16, code: &mut [u64], here: usize) -> (usi
     ensures next { result.1 ≡ (body_at (view t.now) cx.now at).1 }
 {
     let mut targets = Targets::new();
-    let (behind, next) = block(t, cx, at, 128, &mut targets, code, here);
+    let (behind, next) = block(t, cx, at, levels(), &mut targets, code, here);
     let end = put(code, behind, Instruction::Close, at);
     (end, next)
 }
@@ -56,7 +63,7 @@ fn body(t: &Table, cx: &Context, at: u16, code: &mut [u64], here: usize) -> (usi
 // The entry of a function whose first word has that address.
 fn entry_of(own: &Function, address: usize) -> Entry
     requires { address ≤ 65535 }
-    ensures* { λ r. ⌜ r ≡ record { result = own.now.result; parameters = own.now.parameters; variables = own.now.variables; address = address } ⌝ }
+    ensures { result ≡ (record { result = own.now.result; parameters = own.now.parameters; variables = own.now.variables; address = address }) }
 {
     Entry {
         result: own.result,

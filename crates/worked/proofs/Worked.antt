@@ -1,6 +1,6 @@
 -- The worked cases: all that is told and reported of them is computed, and compared with what is written as one list.
 use Rattle.std.proofs.Common.{◌≡◌, ℕ, pred, List, [], ◌∷◌, map, Some, Option, refl, ap}
-use Rattle.std.specs.List.{AllByRecursion as All}
+use Rattle.std.specs.List.{AllByRecursion}
 use Rattle.std.specs.Fmt.{digits}
 use Rattle.table.specs.Fields.{function_at}
 use Rattle.table.specs.Shapes.{shape_of}
@@ -40,7 +40,7 @@ holds : (c : Case) → found c ≡ wanted c → Holds c
 holds (refused P number place) e = cc
 holds (runs c) e = record { passes = cc; within = cc; earlier = cc }
 
-each : (cs : List Case) → map found cs ≡ map wanted cs → All Holds cs
+each : (cs : List Case) → map found cs ≡ map wanted cs → AllByRecursion Holds cs
 each [] e = tt
 each (c ∷ cs) e = (holds c (ap (first (wanted c)) e), each cs (ap others e))
 

@@ -1,7 +1,7 @@
 -- Small programs with what the check tells of their tables and what is reported of their runs, worked out by hand.
 use Rattle.std.specs.Prelude.{◌≡◌, ℕ, pred, ◌+◌, List, [], ◌∷◌, ◌++◌, length, pos, Some, None, Ok, Err, codes, Option}
 use Prim.Native.String.{String}
-use Rattle.std.specs.List.{AllByRecursion as All}
+use Rattle.std.specs.List.{AllByRecursion}
 use Rattle.table.specs.declared.shape.Kind.{Kind}
 use Rattle.table.specs.declared.shape.Kind.TheVariants.{Int, Byte}
 use Rattle.table.specs.declared.shape.Scope.TheVariants.{Own, Main}
@@ -300,6 +300,6 @@ cases =
     ∷ read_case echoes_byte (line_of "256") (fault 64 2 [])
     ∷ []
 
--- All of them come out as written.
+-- AllByRecursion of them come out as written.
 abbrev pub WorkedCases : Type 0
-WorkedCases = All Holds cases
+WorkedCases = AllByRecursion Holds cases

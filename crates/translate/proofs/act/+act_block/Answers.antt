@@ -20,7 +20,7 @@ act-returns-in-Perform t c =
 pub act-returns-in-If : goal.act-returns-in-If
 act-returns-in-If t c =
     record {
-      is = wrote_as (wrote_then c.jump-if-false-middle.ensures.is c.block-end.ensures.is) (search rules);
+      is = wrote_as (wrote_then c.jump_if_false-middle.ensures.is c.block-end.ensures.is) (search rules);
       end = search rules;
       next = search rules;
       kept = search rules;
@@ -29,7 +29,7 @@ act-returns-in-If t c =
 pub act-returns-in-IfElse : goal.act-returns-in-IfElse
 act-returns-in-IfElse t c =
     record {
-      is = wrote_as (wrote_then (wrote_then (wrote_then c.jump-if-false-middle-in-IfElse.ensures.is c.block-first.ensures.is) c.put-start.ensures.is) c.block-end-in-IfElse.ensures.is) (search rules);
+      is = wrote_as (wrote_then (wrote_then (wrote_then c.jump_if_false-middle-in-IfElse.ensures.is c.block-first.ensures.is) c.put-start.ensures.is) c.block-end-in-IfElse.ensures.is) (search rules);
       end = search rules;
       next = search rules;
       kept = search rules;
@@ -47,7 +47,7 @@ act-returns-in-Loop t c =
 pub block-act-requires : goal.block-act-requires
 block-act-requires t c =
     let e = ap (λ x. words_b x.0) c.in-Some.ensures.tree in
-    let i = stmts_words (stmt_at (view c.args.t.now) c.args.cx.now (c.args.left - 1)) (c.in-Some.count - c.loop-i.-i) c.loop-i.next (omega arith) in
+    let i = stmts_words (stmt_at (view c.args.t.now) c.args.cx.now (c.args.left - 1)) (c.in-Some.count - c.loop-i._i) c.loop-i.next (omega arith) in
     let w = c.loop-i.invariant.0.words in
     search rules
 
@@ -55,6 +55,6 @@ pub block-loop-i-preserved : goal.block-loop-i-preserved
 block-loop-i-preserved t c =
     let a = c.act in
     let p = c.loop-i.invariant in
-    let r = block-again (aims c.args.targets.now) c.args.here c.args.code.now (stmt_at (view c.args.t.now) c.args.cx.now (c.args.left - 1)) c.in-Some.count c.loop-i.-i (c.args.at + 1) c.loop-i.next a.result.1
+    let r = block-again (aims c.args.targets.now) c.args.here c.args.code.now (stmt_at (view c.args.t.now) c.args.cx.now (c.args.left - 1)) c.in-Some.count c.loop-i._i (c.args.at + 1) c.loop-i.next a.result.1
     c.loop-i.end a.result.0 c.loop-i.code a.new.code c.loop-i-test.true p.0 p.1 (wrote_as a.ensures.is (search rules)) a.ensures.end a.ensures.next in
     (r.0, r.1, a.ensures.kept ∙ p.2)

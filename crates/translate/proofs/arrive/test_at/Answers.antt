@@ -5,7 +5,7 @@ use Rattle.translate.proofs.arrive.test_at.Goals as goal
 
 pub returns : goal.returns
 returns c =
-    let n = c.test-node.ensures in
+    let n = c.test_node.ensures in
     record {
       tree = cond_is (view c.args.t.now) (env_of (view c.args.t.now) c.args.cx.now) c.args.left c.args.at _ n.is;
       within = n.within;

@@ -5,7 +5,7 @@ use Rattle.translate.proofs.arrive.value_at.Goals as goal
 
 pub returns : goal.returns
 returns c =
-    let n = c.value-node.ensures in
+    let n = c.value_node.ensures in
     record {
       tree = expr_is (view c.args.t.now) (env_of (view c.args.t.now) c.args.cx.now) c.args.left c.args.at _ n.is;
       within = n.within;

@@ -2,8 +2,8 @@ use Rattle.std.proofs.Common.{rules}
 use Rattle.translate.proofs.Writes.{wrote_then, wrote_as}
 use Rattle.translate.proofs.jump.+jump_if_false_jump_if_true_left_side.Goals as goal
 
-pub jump_if_false-returns-in-default : goal.jump_if_false-returns-in-default
-jump_if_false-returns-in-default t c =
+pub jump_if_false-returns-in_default : goal.jump_if_false-returns-in_default
+jump_if_false-returns-in_default t c =
     record { is = wrote_as (wrote_then c.put-middle.ensures.is c.put-end.ensures.is) (search rules); end = search rules; next = search rules }
 
 pub jump_if_false-returns-in-Compare : goal.jump_if_false-returns-in-Compare
@@ -12,14 +12,14 @@ jump_if_false-returns-in-Compare t c =
 
 pub jump_if_false-returns-in-Join : goal.jump_if_false-returns-in-Join
 jump_if_false-returns-in-Join t c =
-    record { is = wrote_as (wrote_then c.left-side-middle.ensures.is c.jump-if-false-end.ensures.is) (search rules); end = search rules; next = search rules }
+    record { is = wrote_as (wrote_then c.left_side-middle.ensures.is c.jump_if_false-end.ensures.is) (search rules); end = search rules; next = search rules }
 
 pub jump_if_false-returns-in-Holds : goal.jump_if_false-returns-in-Holds
 jump_if_false-returns-in-Holds t c =
     record { is = wrote_as (wrote_then c.value-next-in-Holds.ensures.is c.put-end-in-Holds.ensures.is) (search rules); end = search rules; next = search rules }
 
-pub jump_if_true-returns-in-default : goal.jump_if_true-returns-in-default
-jump_if_true-returns-in-default t c =
+pub jump_if_true-returns-in_default : goal.jump_if_true-returns-in_default
+jump_if_true-returns-in_default t c =
     record { is = wrote_as (wrote_then c.put-middle.ensures.is c.put-end.ensures.is) (search rules); end = search rules; next = search rules }
 
 pub jump_if_true-returns-in-Compare : goal.jump_if_true-returns-in-Compare
@@ -28,7 +28,7 @@ jump_if_true-returns-in-Compare t c =
 
 pub jump_if_true-returns-in-Join : goal.jump_if_true-returns-in-Join
 jump_if_true-returns-in-Join t c =
-    record { is = wrote_as (wrote_then c.left-side-middle.ensures.is c.jump-if-true-end.ensures.is) (search rules); end = search rules; next = search rules }
+    record { is = wrote_as (wrote_then c.left_side-middle.ensures.is c.jump_if_true-end.ensures.is) (search rules); end = search rules; next = search rules }
 
 pub jump_if_true-returns-in-Holds : goal.jump_if_true-returns-in-Holds
 jump_if_true-returns-in-Holds t c =

@@ -13,7 +13,7 @@ decreases-block_size l = l.left
 
 abbrev pub invariant-block_size-loop-i : goal.invariant-block_size-loop-i
 invariant-block_size-loop-i l =
-    (l.words + words_ss (read_ss (stmt_at (view l.t) l.cx (l.left - 1)) (l.count - l.-i) l.next).0
+    (l.words + words_ss (read_ss (stmt_at (view l.t) l.cx (l.left - 1)) (l.count - l._i) l.next).0
     ≡ words_ss (read_ss (stmt_at (view l.t) l.cx (l.left - 1)) l.count (l.at + 1)).0)
-    × ((read_ss (stmt_at (view l.t) l.cx (l.left - 1)) (l.count - l.-i) l.next).1
+    × ((read_ss (stmt_at (view l.t) l.cx (l.left - 1)) (l.count - l._i) l.next).1
     ≡ (read_ss (stmt_at (view l.t) l.cx (l.left - 1)) l.count (l.at + 1)).1)

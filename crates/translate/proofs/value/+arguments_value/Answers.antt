@@ -20,7 +20,7 @@ arguments-returns t c =
 pub value-returns-in-Unary : goal.value-returns-in-Unary
 value-returns-in-Unary t c =
     record {
-      is = wrote_as (wrote_then c.value-next.ensures.is c.put-unary-end.ensures.is) (search rules);
+      is = wrote_as (wrote_then c.value-next.ensures.is c.put_unary-end.ensures.is) (search rules);
       end = search rules;
       kind = search rules;
       next = search rules;
