@@ -300,6 +300,6 @@ cases =
     ∷ read_case echoes_byte (line_of "256") (fault 64 2 [])
     ∷ []
 
--- AllByRecursion of them come out as written.
+-- All of them come out as written.
 abbrev pub WorkedCases : Type 0
 WorkedCases = AllByRecursion Holds cases
