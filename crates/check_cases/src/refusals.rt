@@ -1,5 +1,6 @@
 // One table at least for each refusal.
 use crate::tables::{outcome, table};
+use std::process::Abort;
 use std::test::*;
 
 // Function records, node records, and the number and place of the refusal.
@@ -14,10 +15,10 @@ const TWO: [u8; 6] = [0, 0x20, 0x40, 0, 0, 0];
 // main, and function 1 with an int result and a byte parameter
 const GIVES: [u8; 12] = [0, 0, 0, 0, 0, 0, 0x44, 0x10, 0x80, 0, 0, 0];
 
-fn play(rt: HostRuntime, rows: &[Row]) -> Result<(), Fail> {
+fn play(rt: &(impl Abort + AllocGlobal), rows: &[Row]) -> Result<(), Fail> {
     for row in rows {
         let bytes = table(rt.alloc(), row.0, row.1)?;
-        assert_eq!(outcome(bytes.as_slice()), (row.2, row.3));
+        assert_eq!(rt; outcome(bytes.as_slice()), (row.2, row.3));
     }
     Ok(())
 }
@@ -46,7 +47,7 @@ fn headers(rt: HostRuntime) -> Result<(), Fail> {
 fn records(rt: HostRuntime) -> Result<(), Fail> {
     let idle = [0xA4, 0, 1, 0x80, 0, 0];
     play(
-        rt,
+        &rt,
         &[
             Row(&[0x40, 0, 0, 0, 0, 0], &idle, 4, 0),
             Row(&[4, 0x10, 0, 0, 0, 0], &idle, 4, 0),
@@ -64,7 +65,7 @@ fn records(rt: HostRuntime) -> Result<(), Fail> {
 #[test]
 fn nodes(rt: HostRuntime) -> Result<(), Fail> {
     play(
-        rt,
+        &rt,
         &[
             // a kind that is not listed, and fields out of range
             Row(&MAIN, &[0xA4, 0, 1, 0, 0, 0], 10, 1),

@@ -141,12 +141,12 @@ fn texts_go_whole_or_not_at_all(rt: HostRuntime) {
 #[test]
 fn a_window_has_up_to_eight_bytes(rt: HostRuntime) -> Result<(), Fail> {
     let mut ring = Ring::new();
-    assert_eq!(rt; line::peek(&ring).as_bytes(), b"");
+    assert_eq!(rt; line::peek(&ring).as_bytes(), b"".as_slice());
     for b in *b"0123456789" {
         ring.feed(b)?;
     }
-    assert_eq!(rt; line::peek(&ring).as_bytes(), b"01234567");
+    assert_eq!(rt; line::peek(&ring).as_bytes(), b"01234567".as_slice());
     ring.take(7)?;
-    assert_eq!(rt; line::peek(&ring).as_bytes(), b"789");
+    assert_eq!(rt; line::peek(&ring).as_bytes(), b"789".as_slice());
     Ok(())
 }

@@ -14,9 +14,9 @@ passing a t r p e h = ap checked (front a t r e) ∙ sym h
 
 pub invariant_of-self : goal.invariant_of-self
 invariant_of-self c = record {
-      fits = c.in_ok-passed.ensures.long;
-      passes = passes_at _ c.in_ok-passed.passed (passing _ _ _ _ c.copy_from_slice.ensures.after c.in_ok-passed.ensures.walked);
-    }
+  fits = c.in_ok-passed.ensures.long;
+  passes = passes_at _ c.in_ok-passed.passed (passing _ _ _ _ c.copy_from_slice.ensures.after c.in_ok-passed.ensures.walked);
+}
 
 pub returns : goal.returns
 returns c = record { outcome = c.in_ok-passed.ensures.walked; held = front _ _ _ c.copy_from_slice.ensures.after }
