@@ -1,28 +1,25 @@
 -- The walk of a statement or a block passes exactly if a well-formed tree stands there.
-use Rattle.std.proofs.Common.{◌≡◌, ℕ, zero, suc, ◌+◌, ◌-◌, ◌<◌, ◌≤◌, max, Bool, true, false, cond, ltb, List, [], ◌∷◌, ◌++◌, length, Some, None, Ok, Err, Option, sym, refl, ap, ◌∙◌, arith, length-append}
+use Rattle.std.proofs.Common.{◌≡◌, ℕ, zero, suc, ◌+◌, ◌<◌, ◌≤◌, max, Bool, true, cond, List, ◌∷◌, ◌++◌, length, Some, None, Ok, Err, Option, sym, refl, ap, ◌∙◌, arith, length-append}
 use Rattle.std.proofs.lemmas.Bool.Decides.{nat_tests}
 use Rattle.std.specs.Option.{ok_or}
 use Rattle.table.specs.Flow.{onward}
-use Rattle.table.specs.Shapes.{shape_of}
 use Rattle.table.specs.View.{View, node_at}
-use Rattle.table.specs.declared.record.Node.{Node}
 use Rattle.table.specs.declared.shape.Kind.{Kind}
 use Rattle.table.specs.declared.shape.Statement.{Statement}
 use Rattle.table.specs.declared.shape.Statement.TheVariants.{Skip, Assign, Perform, If, IfElse, Loop, Break, Continue, Exit, Return, Write}
 use Rattle.table.specs.declared.shape.Shape.TheVariants.{Statement as Act, Block as Body}
 use Rattle.table.proofs.Round.{decoded}
-use Rattle.language.specs.Tree.{Stmt, Block, Stmts, Signature, skip, assign, perform, if, if_else, loop, break, continue, exit, return, write, block, done, next}
-use Rattle.language.specs.Listing.{Placed, count, list_e, list_a, list_c, list_s, list_b, list_ss}
-use Rattle.language.specs.Measures.{kind_of, format_kind, levels_s, levels_b, levels_ss, height_a, height_c, height_s, height_b, height_ss, words_a, words_c, words_s, words_b, words_ss}
+use Rattle.language.specs.Tree.{Stmt, Block, Stmts, skip, assign, perform, if, if_else, loop, break, continue, exit, return, write, block, done, next}
+use Rattle.language.specs.Listing.{count, list_c, list_s, list_b, list_ss}
+use Rattle.language.specs.Measures.{format_kind, levels_s, levels_b, levels_ss, height_a, height_c, height_s, height_b, height_ss, words_a, words_c, words_s, words_b, words_ss}
 use Rattle.language.specs.Rules.{Env, slot_kind, called, parameter_kinds, is_open, FineS, FineB, FineSs}
 use Rattle.walk.specs.Walk.{Answer, arrived, as_act, as_block, called_at, no_result, judged, same_kind, size, beside, topped, no_arguments, args_from, expr_from, cond_from, items_from, opens, leaves, exits, stmt_at, stmt_from, block_from}
 use Rattle.walk.specs.declared.fault.CheckFault.TheVariants.{Nesting, Variable as NoVariable, Function as NoFunction, Loop as NoLoop, Exit as NoExit}
 use Rattle.walk.specs.declared.found.Size.{Size}
-use Rattle.walk.proofs.Steps.{stmt_step, block_step}
 use Rattle.checker.specs.Spells.{Spells}
-use Rattle.checker.proofs.Spelling.{onward_ok, ok_or_ok, judged_ok, same_kind_lem, kind_same, Came, came_act, came_block, came_first, arrived_is, spells-on, spells-left}
-use Rattle.checker.proofs.Values.{found_of, taken, args-sound, args-complete, expr_sound, expr_complete}
-use Rattle.checker.proofs.Tests.{size_c, cond_sound, cond_complete}
+use Rattle.checker.proofs.Spelling.{onward_ok, ok_or_ok, judged_ok, same_kind_lem, Came, came_act, came_block, spells-on}
+use Rattle.checker.proofs.Values.{args-sound, expr_sound}
+use Rattle.checker.proofs.Tests.{size_c, cond_sound}
 
 abbrev pub size_s : Stmt → Size
 size_s s = size (height_s s) (words_s s)

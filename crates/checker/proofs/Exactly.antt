@@ -1,23 +1,21 @@
 -- A table passes exactly if it is the table of a program that keeps the rules, which is then the only one.
-use Rattle.std.proofs.Common.{◌≡◌, ℕ, ◌+◌, ◌*◌, ◌<◌, ◌≤◌, Bool, true, false, cond, ltb, List, length, get_or, IfOk, Ok, Err, Result, sym, refl, ap, ◌∙◌, subst, arith}
+use Rattle.std.proofs.Common.{◌≡◌, ℕ, ◌+◌, ◌*◌, ◌<◌, ◌≤◌, Bool, true, false, cond, ltb, List, length, IfOk, Ok, Err, Result, sym, refl, ap, ◌∙◌, subst, arith}
 use Rattle.std.proofs.lemmas.Bool.Decides.{nat_tests}
 use Rattle.std.proofs.lemmas.Bool.{le-ltb}
 use Rattle.table.specs.Flow.{onward}
 use Rattle.table.specs.Fields.{layout_of, counts_hold}
-use Rattle.table.specs.View.{View}
 use Rattle.table.specs.declared.record.Header.{Header}
 use Rattle.table.specs.declared.record.TableFault.{TableFault}
 use Rattle.language.specs.Tree.{Program}
 use Rattle.language.specs.Listing.{list_p}
-use Rattle.language.specs.Measures.{words_p, words_bodies}
-use Rattle.language.specs.Rules.{Keeps, signatures}
+use Rattle.language.specs.Measures.{words_p}
+use Rattle.language.specs.Rules.{Keeps}
 use Rattle.language.specs.Layout.{layout}
 use Rattle.walk.specs.Walk.{Answer}
-use Rattle.walk.specs.Bodies.{signature_in, view_of, bodies_from, ended, from_table, checked}
-use Rattle.walk.specs.declared.fault.CheckFault.{CheckFault}
+use Rattle.walk.specs.Bodies.{view_of, bodies_from, ended, from_table, checked}
 use Rattle.walk.specs.declared.fault.CheckFault.TheVariants.{NoNode}
 use Rattle.walk.specs.declared.found.Passed.{Passed}
-use Rattle.layout.specs.Stored.{Bytes, Shown, Agrees, counts_of as headerFor}
+use Rattle.layout.specs.Stored.{Bytes, counts_of as header_for}
 use Rattle.layout.proofs.Read.{layouts_read}
 use Rattle.layout.proofs.Written.{layouts_written}
 use Rattle.layout.proofs.Recorded.{passed, layouts_recorded}
@@ -58,10 +56,10 @@ small bs h b i =
     omega arith
 
 -- a program that keeps the rules stands in its own table
-bodied : (P : Program) → Keeps P → Bodied (view_of (layout P) (headerFor P)) 0 0 P
+bodied : (P : Program) → Keeps P → Bodied (view_of (layout P) (header_for P)) 0 0 P
 bodied P k =
     let s = layouts_read P (program_limits P k) in
-    let v = view_of (layout P) (headerFor P) in
+    let v = view_of (layout P) (header_for P) in
     program-bodied v P s.functions k.functions (spells-from v 0 (list_p P) s.nodes k.numbered (program_fits P k.functions))
 
 -- and passes
@@ -69,19 +67,19 @@ pub complete : (P : Program) → Keeps P → checked (layout P) ≡ Ok (counts_o
 unfolding checked
 complete P k =
     let s = layouts_read P (program_limits P k) in
-    let v = view_of (layout P) (headerFor P) in
+    let v = view_of (layout P) (header_for P) in
     let b = bodies_complete v P 0 (length P) 0 (bodied P k) in
     let z : 0 + length (list_p P) ≡ length (list_p P) = omega arith in
     ap (λ r. onward (from_table r) (λ h. onward (bodies_from (view_of (layout P) h) h.functions 0 h.functions 0) (ended h))) s.header
-    ∙ ap (λ r. onward r (ended (headerFor P))) b
-    ∙ ap (λ n. ended (headerFor P) (words_p P, n)) z
+    ∙ ap (λ r. onward r (ended (header_for P))) b
+    ∙ ap (λ n. ended (header_for P) (words_p P, n)) z
     ∙ ap (λ t. cond t (Err (NoNode (length (list_p P)))) (Ok (counts_of P))) (le-ltb (length (list_p P)) (length (list_p P)) (omega arith))
 
 -- the header of a table that is a program's
-same-header : (bs : List ℕ) (h : Header) (P : Program) → Keeps P → layout P ≡ bs → layout_of bs ≡ Ok h → headerFor P ≡ h
+same-header : (bs : List ℕ) (h : Header) (P : Program) → Keeps P → layout P ≡ bs → layout_of bs ≡ Ok h → header_for P ≡ h
 same-header bs h P k l e =
     let s = (layouts_read P (program_limits P k)).header in
-    let c : ◌≡◌ {A = Result Header TableFault} (Ok (headerFor P)) (Ok h) = sym s ∙ ap layout_of l ∙ e in
+    let c : ◌≡◌ {A = Result Header TableFault} (Ok (header_for P)) (Ok h) = sym s ∙ ap layout_of l ∙ e in
     grind (arith, c)
 
 sound : (bs : List ℕ) (p : Passed) → Bytes bs → checked bs ≡ Ok p → Only bs p
@@ -119,7 +117,7 @@ sound bs p bytes e =
           ∙ ap (λ n. record { functions = length P; nodes = length (list_p P); words = n }) words;
       only = λ Q k l.
           let g = same-header bs h Q k l passes in
-          let stands : Bodied v 0 0 Q = subst (λ (x : List ℕ × Header). Bodied (view_of x.0 x.1) 0 0 Q) (ap (λ (y : List ℕ). (y, headerFor Q)) l ∙ ap (λ (y : Header). (bs, y)) g) (bodied Q k) in
+          let stands : Bodied v 0 0 Q = subst (λ (x : List ℕ × Header). Bodied (view_of x.0 x.1) 0 0 Q) (ap (λ (y : List ℕ). (y, header_for Q)) l ∙ ap (λ (y : Header). (bs, y)) g) (bodied Q k) in
           let n : length Q ≡ length P = ap (λ x. x.functions) g ∙ sym many in
           bodies_same v Q P 0 0 n stands b.bodied;
     }

@@ -1,5 +1,5 @@
 -- Bodies that stand one behind the other: the walk passes exactly these, and there is only one way to read them.
-use Rattle.std.proofs.Common.{◌≡◌, ℕ, zero, suc, ◌+◌, ◌<◌, ◌≤◌, Bool, true, false, cond, eqb, leb, List, [], ◌∷◌, ◌++◌, length, Some, None, Ok, Err, Option, sym, refl, ap, ◌∙◌, subst, arith, length-append}
+use Rattle.std.proofs.Common.{◌≡◌, ℕ, zero, suc, ◌+◌, ◌≤◌, Bool, true, false, cond, eqb, leb, List, [], ◌∷◌, ◌++◌, length, Some, None, Ok, Err, Option, sym, refl, ap, ◌∙◌, subst, arith, length-append}
 use Rattle.std.proofs.lemmas.Bool.Decides.{nat_tests}
 use Rattle.std.proofs.lemmas.Bool.{le-leb}
 use Rattle.std.specs.Option.{ok_or}
@@ -7,12 +7,12 @@ use Rattle.table.specs.Flow.{onward}
 use Rattle.table.specs.View.{View, function_of}
 use Rattle.table.specs.declared.record.Function.{Function as Record}
 use Rattle.table.specs.declared.record.TableFault.TheVariants.{Record as Broken}
-use Rattle.language.specs.Tree.{Function, Block, Signature, Program}
+use Rattle.language.specs.Tree.{Function, Block}
 use Rattle.language.specs.Listing.{list_b, list_p}
 use Rattle.language.specs.Measures.{levels_b, height_b, words_b, words_bodies}
 use Rattle.language.specs.Rules.{Env, FineB}
 use Rattle.language.specs.Reader.{read_b}
-use Rattle.walk.specs.Walk.{Answer, block_from}
+use Rattle.walk.specs.Walk.{Answer}
 use Rattle.walk.specs.Bodies.{signature_of, env_of, context_at, body_from, closed, function_from, bodies_from}
 use Rattle.walk.specs.declared.fault.CheckFault.TheVariants.{Table, Height}
 use Rattle.walk.specs.declared.found.Size.{Size}

@@ -1,7 +1,7 @@
 -- A program that is held passes; the smallest one does.
-use Rattle.std.proofs.Common.{◌≡◌, ℕ, ◌<◌, ◌≤◌, Bool, true, false, ◌&&◌, eqb, List, [], ◌∷◌, length, None, Ok, Err, sym, refl, ap, ◌∙◌, arith}
+use Rattle.std.proofs.Common.{◌≡◌, true, [], ◌∷◌, None, Ok, Err, sym, refl, ap, ◌∙◌, arith}
 use Rattle.std.proofs.lemmas.Bool.Decides.{nat_tests}
-use Rattle.language.specs.Tree.{Program, Function, skip, block, done, next}
+use Rattle.language.specs.Tree.{Program, skip, block, done, next}
 use Rattle.language.specs.Rules.{Keeps}
 use Rattle.language.specs.Layout.{layout}
 use Rattle.walk.specs.Walk.{Answer}
@@ -38,7 +38,7 @@ idle-keeps =
         refl,
         record {
           record_fine = record { few = omega arith; among = omega arith; short = omega arith };
-          body-fine = (omega arith, omega arith, (tt, tt));
+          body_fine = (omega arith, omega arith, (tt, tt));
           nesting = omega arith;
           cells = omega arith;
         },

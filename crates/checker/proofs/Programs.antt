@@ -1,24 +1,22 @@
 -- From the functions of a table to a program that keeps the rules, and back.
-use Rattle.std.proofs.Common.{◌≡◌, ℕ, zero, suc, ◌+◌, ◌*◌, ◌<◌, ◌≤◌, Bool, true, false, cond, eqb, ltb, ◌⊎◌, List, [], ◌∷◌, ◌++◌, length, get_or, Some, None, Option, sym, refl, ap, ◌∙◌, subst, inl, inr, arith, length-append}
+use Rattle.std.proofs.Common.{◌≡◌, ℕ, zero, suc, ◌+◌, ◌<◌, ◌≤◌, cond, ◌⊎◌, List, [], ◌∷◌, length, Some, None, Option, sym, refl, ap, ◌∙◌, subst, inl, inr, arith, length-append}
 use mathlib.Core.Path.{fun_ext}
-use Rattle.std.proofs.lemmas.Bool.Decides.{nat_tests}
 use Rattle.std.proofs.lemmas.Bool.{cases_lt, ne_eqb, le-ltb, lt-ltb}
 use Rattle.std.proofs.ByRecursion.{All-append}
 use Rattle.std.proofs.lemmas.List.FromFn.{length-map-range_with_len}
 use Rattle.std.proofs.lemmas.Option.{slice_get_past}
 use Rattle.std.specs.List.{AllByRecursion, slice_get}
 use Rattle.table.specs.Flow.{mapped}
-use Rattle.table.specs.Fields.{function_at, variables_of, kind_bit}
-use Rattle.table.specs.Shapes.{shape_of, node_of}
+use Rattle.table.specs.Fields.{function_at, kind_bit}
+use Rattle.table.specs.Shapes.{shape_of}
 use Rattle.table.specs.View.{View, node_at, function_of}
 use Rattle.table.specs.declared.record.Function.{Function as Record}
 use Rattle.table.proofs.Round.{decoded, encoded}
 use Rattle.language.specs.Tree.{Function, Block, Signature, Program, block}
 use Rattle.language.specs.Listing.{Placed, list_b, list_p}
-use Rattle.language.specs.Measures.{levels_b, height_b}
 use Rattle.language.specs.Rules.{Env, FineB, FineSignature, FineFunction, FineOthers, FineFunctions, Numbered, Keeps, signatures, main_env, other_env}
-use Rattle.walk.specs.Bodies.{signature_of, signature_in, env_of}
-use Rattle.layout.specs.Stored.{Stored, Plain, Limits, Recorded}
+use Rattle.walk.specs.Bodies.{signature_of, signature_in}
+use Rattle.layout.specs.Stored.{Stored, Limits, Recorded}
 use Rattle.checker.specs.Spells.{Spells}
 use Rattle.checker.proofs.Spelling.{spells-left}
 use Rattle.checker.proofs.Fits.{Fits, fits_b}
@@ -77,7 +75,7 @@ module _ (v : View) (P : Program) (same : (f : ℕ) → signature_in v f ≡ sli
         own = r.0;
         there = r.1;
         signature = r.2;
-        fine = subst (λ (x : Env). FineB x [] g.body) (sym (env r.0 r.2)) fine.body-fine;
+        fine = subst (λ (x : Env). FineB x [] g.body) (sym (env r.0 r.2)) fine.body_fine;
         nesting = fine.nesting;
         cells = omega arith;
         spells = h;
@@ -106,12 +104,12 @@ program-bodied v (g ∷ gs) same fine h =
 
 others_fit : (P : Program) (m : Signature) (gs : List Function) → FineOthers P m gs → AllByRecursion Fits (list_p gs)
 others_fit P m [] f = tt
-others_fit P m (g ∷ gs) f = All-append Fits (list_b g.body) (list_p gs) (fits_b (other_env P m g.signature) [] g.body f.0.body-fine) (others_fit P m gs f.1)
+others_fit P m (g ∷ gs) f = All-append Fits (list_b g.body) (list_p gs) (fits_b (other_env P m g.signature) [] g.body f.0.body_fine) (others_fit P m gs f.1)
 
 pub program_fits : (P : Program) → FineFunctions P → AllByRecursion Fits (list_p P)
 program_fits [] f = absurd f
 program_fits (g ∷ gs) f =
-    All-append Fits (list_b g.body) (list_p gs) (fits_b (main_env (g ∷ gs) g.signature) [] g.body f.2.body-fine) (others_fit (g ∷ gs) g.signature gs f.3)
+    All-append Fits (list_b g.body) (list_p gs) (fits_b (main_env (g ∷ gs) g.signature) [] g.body f.2.body_fine) (others_fit (g ∷ gs) g.signature gs f.3)
 
 others-signed : (P : Program) (m : Signature) (gs : List Function) → FineOthers P m gs → AllByRecursion FineSignature (signatures gs)
 others-signed P m [] f = tt
@@ -165,7 +163,7 @@ module _ (v : View) (recorded : (f : ℕ) → f < v.functions → Recorded v.byt
       let n = variables-many s.own g.signature s.signature in
       record {
         record_fine = subst FineSignature (ap signature_of o ∙ s.signature) (recorded f l).fine;
-        body-fine = subst (λ (x : Env). FineB x [] g.body) (env s.own s.signature) s.fine;
+        body_fine = subst (λ (x : Env). FineB x [] g.body) (env s.own s.signature) s.fine;
         nesting = s.nesting;
         cells = omega arith;
       }

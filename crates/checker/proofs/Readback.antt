@@ -1,7 +1,6 @@
 -- A well-formed tree that stands at a place is the tree that is read there.
-use Rattle.std.proofs.Common.{◌≡◌, ℕ, zero, suc, ◌+◌, ◌-◌, ◌<◌, ◌≤◌, List, [], ◌∷◌, ◌++◌, length, Some, None, Option, unwrap_or, sym, refl, ap, ◌∙◌, arith, length-append}
-use Rattle.table.specs.Shapes.{shape_of}
-use Rattle.table.specs.View.{View, node_at}
+use Rattle.std.proofs.Common.{◌≡◌, ℕ, zero, suc, ◌+◌, ◌-◌, ◌<◌, ◌≤◌, List, [], ◌∷◌, ◌++◌, length, Some, unwrap_or, sym, ap, ◌∙◌, arith, length-append}
+use Rattle.table.specs.View.{View}
 use Rattle.table.specs.declared.shape.Kind.{Kind}
 use Rattle.table.specs.declared.shape.Kind.TheVariants.{Int}
 use Rattle.table.specs.declared.shape.Expression.{Expression}

@@ -1,5 +1,5 @@
 -- Nodes that stand in a table, and arrival at one of them.
-use Rattle.std.proofs.Common.{◌≡◌, ℕ, suc, ◌+◌, ◌<◌, Bool, true, false, cond, ◌&&◌, ltb, List, [], ◌∷◌, ◌++◌, length, Some, None, Ok, Err, Option, Result, sym, refl, ap, ◌∙◌, arith}
+use Rattle.std.proofs.Common.{◌≡◌, ℕ, suc, ◌+◌, ◌<◌, Bool, true, false, cond, ltb, List, [], ◌∷◌, ◌++◌, length, Some, None, Ok, Err, Option, Result, refl, ap, ◌∙◌, arith}
 use Rattle.std.proofs.lemmas.Bool.Decides.{nat_tests}
 use Rattle.std.specs.Option.{ok_or}
 use Rattle.table.specs.Flow.{onward}
@@ -14,8 +14,7 @@ use Rattle.table.specs.declared.shape.Shape.{Shape}
 use Rattle.table.specs.declared.shape.Shape.TheVariants.{Expression as Value, Condition as Test, Statement as Act, Block}
 use Rattle.language.specs.Listing.{Placed}
 use Rattle.walk.specs.Walk.{Answer, arrived, as_value, as_test, as_act, as_block, judged, same_kind}
-use Rattle.walk.specs.declared.fault.CheckFault.{CheckFault}
-use Rattle.walk.specs.declared.fault.CheckFault.TheVariants.{NoNode, Nesting, Field, Child}
+use Rattle.walk.specs.declared.fault.CheckFault.TheVariants.{NoNode, Nesting, Field}
 use Rattle.checker.specs.Spells.{Spells}
 
 pub onward_ok : {A B E : Type 0} (r : Result A E) (f : A → Result B E) (y : B) → onward r f ≡ Ok y → (x : A) × (r ≡ Ok x) × (f x ≡ Ok y)

@@ -1,5 +1,5 @@
 -- The walk of a condition passes exactly if a well-formed tree stands there.
-use Rattle.std.proofs.Common.{◌≡◌, ℕ, zero, suc, ◌+◌, ◌-◌, ◌<◌, ◌≤◌, max, true, List, [], ◌∷◌, ◌++◌, length, Ok, Err, sym, refl, ap, ◌∙◌, arith, length-append}
+use Rattle.std.proofs.Common.{◌≡◌, ℕ, zero, suc, ◌+◌, ◌-◌, ◌<◌, ◌≤◌, true, List, ◌∷◌, ◌++◌, length, Ok, Err, sym, refl, ap, ◌∙◌, arith, length-append}
 use Rattle.table.specs.Flow.{onward}
 use Rattle.table.specs.View.{View}
 use Rattle.table.specs.declared.shape.Kind.TheVariants.{Byte}

@@ -1,27 +1,24 @@
 -- The walk of an expression passes exactly if a well-formed tree stands there.
-use Rattle.std.proofs.Common.{◌≡◌, ℕ, zero, suc, ◌+◌, ◌-◌, ◌<◌, ◌≤◌, max, Bool, true, false, cond, ◌&&◌, List, [], ◌∷◌, ◌++◌, length, Some, None, Ok, Err, Option, Result, sym, refl, ap, ◌∙◌, arith, length-append}
+use Rattle.std.proofs.Common.{◌≡◌, ℕ, zero, suc, ◌+◌, ◌-◌, ◌<◌, ◌≤◌, max, Bool, true, false, ◌&&◌, List, [], ◌∷◌, ◌++◌, length, Ok, Err, sym, refl, ap, ◌∙◌, arith, length-append}
 use Rattle.std.proofs.lemmas.Bool.{and_parts}
 use Rattle.std.specs.Option.{ok_or}
 use Rattle.table.specs.Flow.{onward}
-use Rattle.table.specs.Shapes.{shape_of}
 use Rattle.table.specs.View.{View, node_at}
 use Rattle.table.specs.declared.shape.Kind.{Kind}
-use Rattle.table.specs.declared.shape.Kind.TheVariants.{Int, Byte}
+use Rattle.table.specs.declared.shape.Kind.TheVariants.{Byte}
 use Rattle.table.specs.declared.shape.Binary.{Binary}
 use Rattle.table.specs.declared.shape.Binary.TheVariants.{Add, Sub, Mul, Div, Rem, ByteAnd, ByteOr}
 use Rattle.table.specs.declared.shape.Expression.{Expression}
 use Rattle.table.specs.declared.shape.Expression.TheVariants.{Constant, Variable, Unary as OfOne, Binary as OfTwo, Call, Read}
 use Rattle.table.specs.declared.shape.Shape.TheVariants.{Expression as Value}
 use Rattle.table.proofs.Round.{decoded}
-use Rattle.language.specs.Tree.{Expr, Args, Signature, constant, variable, unary, binary, call, read, none, more}
+use Rattle.language.specs.Tree.{Expr, Args, constant, variable, unary, binary, call, read, none, more}
 use Rattle.language.specs.Listing.{Placed, list_e, list_a}
-use Rattle.language.specs.Measures.{kind_of, operand_kind, unary_kind, unary_words, format_kind, levels_e, levels_a, height_e, height_a, words_e, words_a}
+use Rattle.language.specs.Measures.{kind_of, operand_kind, unary_kind, unary_words, levels_e, levels_a, height_e, height_a, words_e, words_a}
 use Rattle.language.specs.Rules.{Env, slot_kind, called, parameter_kinds, Operates, FineE, FineA}
-use Rattle.walk.specs.Walk.{Answer, arrived, as_value, called_at, with_result, judged, same_kind, is_int, operates, found, size, sized, stacked, added, no_arguments, args_from, expr_at, expr_from}
-use Rattle.walk.specs.declared.fault.CheckFault.{CheckFault}
+use Rattle.walk.specs.Walk.{arrived, as_value, called_at, with_result, judged, same_kind, operates, found, size, sized, stacked, added, no_arguments, args_from, expr_at, expr_from}
 use Rattle.walk.specs.declared.fault.CheckFault.TheVariants.{Nesting, Variable as NoVariable, Function as NoFunction}
 use Rattle.walk.specs.declared.found.Found.{Found}
-use Rattle.walk.specs.declared.found.Size.{Size}
 use Rattle.walk.specs.declared.found.Arguments.{Arguments}
 use Rattle.walk.proofs.Steps.{expr_step}
 use Rattle.checker.specs.Spells.{Spells}

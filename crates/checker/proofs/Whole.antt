@@ -1,5 +1,5 @@
 -- The walk passes a statement or a block that stands there well-formed.
-use Rattle.std.proofs.Common.{◌≡◌, ℕ, zero, suc, ◌+◌, ◌-◌, ◌<◌, ◌≤◌, max, true, cond, ltb, List, [], ◌∷◌, ◌++◌, length, Some, None, Ok, Err, sym, refl, ap, ◌∙◌, arith, length-append}
+use Rattle.std.proofs.Common.{◌≡◌, ℕ, suc, ◌+◌, ◌-◌, ◌<◌, ◌≤◌, max, true, cond, List, [], ◌∷◌, ◌++◌, length, Ok, Err, refl, ap, ◌∙◌, arith, length-append}
 use Rattle.std.proofs.lemmas.Bool.{lt-ltb}
 use Rattle.std.specs.Option.{ok_or}
 use Rattle.table.specs.Flow.{onward}
@@ -11,8 +11,8 @@ use Rattle.table.specs.declared.shape.Shape.TheVariants.{Statement as Act, Block
 use Rattle.language.specs.Tree.{Expr, Stmt, Block, Stmts, skip, assign, perform, if, if_else, loop, break, continue, exit, return, write, block, done, next}
 use Rattle.language.specs.Listing.{Placed, count, list_e, list_a, list_c, list_s, list_b, list_ss}
 use Rattle.language.specs.Measures.{kind_of, format_kind, levels_e, levels_s, levels_b, levels_ss, height_a, height_s, height_ss, words_a, words_s, words_ss}
-use Rattle.language.specs.Rules.{Env, FineE, parameter_kinds, is_open, FineS, FineB, FineSs}
-use Rattle.walk.specs.Walk.{Answer, arrived, as_act, as_block, no_result, judged, same_kind, size, beside, topped, no_arguments, args_from, expr_from, cond_from, items_from, opens, leaves, exits, stmt_at, stmt_from, block_from}
+use Rattle.language.specs.Rules.{Env, FineE, parameter_kinds, FineS, FineB, FineSs}
+use Rattle.walk.specs.Walk.{as_act, as_block, no_result, judged, same_kind, size, beside, topped, no_arguments, args_from, expr_from, cond_from, items_from, exits, stmt_at, stmt_from, block_from}
 use Rattle.walk.specs.declared.fault.CheckFault.TheVariants.{Variable as NoVariable, Function as NoFunction, Loop as NoLoop, Exit as NoExit}
 use Rattle.walk.specs.declared.found.Size.{Size}
 use Rattle.walk.proofs.Steps.{stmt_step, block_step}

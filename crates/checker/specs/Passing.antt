@@ -1,5 +1,5 @@
 -- That the check passes bytes and tells these counts, as a test.
-use Rattle.std.specs.Prelude.{Bool, true, false, ◌&&◌, Ok, Err, ◌==◌}
+use Rattle.std.specs.Prelude.{Bool, false, ◌&&◌, Ok, Err, ◌==◌}
 use Rattle.walk.specs.Walk.{Answer}
 use Rattle.walk.specs.declared.found.Passed.{Passed}
 

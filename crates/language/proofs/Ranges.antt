@@ -245,7 +245,7 @@ module _ (mk : List Kind) where
 -- a function that is called, by its number among the others
 found : (P : Program) (m : Signature) (fs : List Function) (j : ℕ) (g : Signature) → FineOthers P m fs → slice_get (map (λ f. f.signature) fs) j ≡ Some g → ((get_or fs j empty).signature ≡ g) × FineB (other_env P m (get_or fs j empty).signature) [] (get_or fs j empty).body
 found P m [] j g h e = let z : ◌≡◌ {A = ℕ} 0 1 = cc in absurd (omega arith)
-found P m (f ∷ fs) zero g h e = let d : f.signature ≡ g = cc in (d, h.0.body-fine)
+found P m (f ∷ fs) zero g h e = let d : f.signature ≡ g = cc in (d, h.0.body_fine)
 found P m (f ∷ fs) (suc j) g h e = found P m fs j g h.1 e
 
 module _ (m : Function) (fs : List Function) (fine : FineOthers (m ∷ fs) m.signature fs) where
@@ -267,7 +267,7 @@ unfolding walk
 by-main [] h bytes small room n = absurd h
 by-main (m ∷ fs) h bytes small room n =
     (whole_r m.signature.variables (main_env (m ∷ fs) m.signature) (functions (m ∷ fs) n) (functions_r m fs h.3 n) [] refl
-    (λ x k t. let z : ◌≡◌ {A = ℕ} 0 1 = cc in absurd (omega arith)) n m.body h.2.body-fine (λ v w. halt_r m.signature.variables refl at_end)).go (start (m ∷ fs) bytes room)
+    (λ x k t. let z : ◌≡◌ {A = ℕ} 0 1 = cc in absurd (omega arith)) n m.body h.2.body_fine (λ v w. halt_r m.signature.variables refl at_end)).go (start (m ∷ fs) bytes room)
     (record { own = fill_fits m.signature.variables 0 [] tt; callers = tt; bytes = small }) n
 
 pub values_in_range : ValuesInRange

@@ -15,7 +15,7 @@ use Rattle.number.specs.Number.{Kind as NumberKind, Within, Cells, folded, in_ra
 use Rattle.number.specs.Reading.{numeral, taken, judged, feed_among, reading}
 use Rattle.number.specs.declared.text.Reading.{Reading}
 use Rattle.number.specs.declared.text.Reading.TheVariants.{Wait, Refused, Took}
-use Rattle.number.specs.Folding.{folding, int-cells, byte-cells}
+use Rattle.number.specs.Folding.{folding, int_cells, byte_cells}
 use Rattle.language.specs.Measures.{operand_kind, unary_kind, format_kind}
 use Rattle.table.specs.Shapes.{ConstantFits}
 use Rattle.language.specs.Rules.{Operates}
@@ -23,8 +23,8 @@ use Rattle.language.specs.Operators.{numbers_of, apply_unary, apply_binary, find
 use Rattle.language.specs.Ranges.{IsOf}
 
 pub cells : (k : Kind) → Cells (numbers_of k)
-cells Int = int-cells
-cells Byte = byte-cells
+cells Int = int_cells
+cells Byte = byte_cells
 
 folds : (k : Kind) (n : ℤ) → IsOf k (folded (numbers_of k) n)
 folds k n = (folding (numbers_of k) (cells k) n).within

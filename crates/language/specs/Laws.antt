@@ -7,11 +7,11 @@ use Rattle.language.specs.Meaning.{walk, meaning}
 -- Report y goes on from report x: it begins with the same happenings; where x has ended or is at a fault, y is x; and
 -- where x waits, y waits too, unless more bytes have come.
 abbrev pub Extends : Bool → Report → Report → Type 0
-Extends moreBytes running y = Unit {0}
-Extends moreBytes waits y = cond moreBytes (Unit {0}) (y ≡ waits)
-Extends moreBytes (ended variables) y = y ≡ ended variables
-Extends moreBytes (fault cause node variables) y = y ≡ fault cause node variables
-Extends moreBytes (h ▷ x) y = (z : Report) × (y ≡ h ▷ z) × Extends moreBytes x z
+Extends more_bytes running y = Unit {0}
+Extends more_bytes waits y = cond more_bytes (Unit {0}) (y ≡ waits)
+Extends more_bytes (ended variables) y = y ≡ ended variables
+Extends more_bytes (fault cause node variables) y = y ≡ fault cause node variables
+Extends more_bytes (h ▷ x) y = (z : Report) × (y ≡ h ▷ z) × Extends more_bytes x z
 
 -- y goes on from x, with the same bytes fed
 abbrev pub ◌⊑◌ : Report → Report → Type 0

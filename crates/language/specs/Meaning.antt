@@ -99,11 +99,11 @@ unfoldable mutual
 -- Conditions. `not` changes the two ways on into one another; `and` and `or` enter the right side only if the left
 -- leaves the result open.
 unfoldable pub condition : Functions → Cond → Rest → Rest → Rest
-condition F (compare p o k left right) whenHolds whenFails = enter (expression F left (λ a. expression F right (λ b. cond (compares o a b) whenHolds whenFails)))
-condition F (negate p c) whenHolds whenFails = enter (condition F c whenFails whenHolds)
-condition F (join p And left right) whenHolds whenFails = enter (condition F left (condition F right whenHolds whenFails) whenFails)
-condition F (join p Or left right) whenHolds whenFails = enter (condition F left whenHolds (condition F right whenHolds whenFails))
-condition F (holds p e) whenHolds whenFails = enter (expression F e (λ a. cond (is_true a) whenHolds whenFails))
+condition F (compare p o k left right) when_holds when_fails = enter (expression F left (λ a. expression F right (λ b. cond (compares o a b) when_holds when_fails)))
+condition F (negate p c) when_holds when_fails = enter (condition F c when_fails when_holds)
+condition F (join p And left right) when_holds when_fails = enter (condition F left (condition F right when_holds when_fails) when_fails)
+condition F (join p Or left right) when_holds when_fails = enter (condition F left when_holds (condition F right when_holds when_fails))
+condition F (holds p e) when_holds when_fails = enter (expression F e (λ a. cond (is_true a) when_holds when_fails))
 
 -- Where a statement may leave to, other than to the one behind it.
 --   behind: behind the open loop of a name; at 0 behind the innermost
@@ -120,10 +120,10 @@ is_meant name x = x == 0 || x == name
 
 -- In a loop's block the loop itself comes first; other names mean the loops around it.
 abbrev pub in_loop : ℕ → Rest → Rest → Ways → Ways
-in_loop name behindIt nextRound ways =
+in_loop name behind_it next_round ways =
     record {
-      behind = λ x. cond (is_meant name x) behindIt (ways.behind x);
-      again = λ x. cond (is_meant name x) nextRound (ways.again x);
+      behind = λ x. cond (is_meant name x) behind_it (ways.behind x);
+      again = λ x. cond (is_meant name x) next_round (ways.again x);
       close = ways.close;
     }
 
@@ -142,7 +142,7 @@ unfoldable mutual
   statement g F (perform p f es) ways rest = enter (arguments F es (λ values. activate F p f values (λ v. rest)))
   statement g F (if p c b) ways rest = enter (condition F c (body g F b ways rest) rest)
   statement g F (if_else p c b other) ways rest = enter (condition F c (body g F b ways rest) (body g F other ways rest))
-  statement g F (loop p name b) ways rest = enter (rounds g (λ nextRound. body g F b (in_loop name rest nextRound ways) nextRound))
+  statement g F (loop p name b) ways rest = enter (rounds g (λ next_round. body g F b (in_loop name rest next_round ways) next_round))
   statement g F (break p x) ways rest = enter (ways.behind x)
   statement g F (continue p x) ways rest = enter (ways.again x)
   statement g F (exit p) ways rest = enter (ways.close (pos 0))

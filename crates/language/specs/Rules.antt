@@ -3,7 +3,7 @@ use Rattle.std.specs.Prelude.{◌≡◌, ℕ, ◌+◌, ◌<◌, ◌≤◌, Bool,
 use Rattle.std.specs.List.{slice_get}
 use Rattle.table.specs.Shapes.{ConstantFits}
 use Rattle.table.specs.declared.shape.Kind.{Kind}
-use Rattle.table.specs.declared.shape.Kind.TheVariants.{Int, Byte}
+use Rattle.table.specs.declared.shape.Kind.TheVariants.{Byte}
 use Rattle.table.specs.declared.shape.Scope.{Scope}
 use Rattle.table.specs.declared.shape.Scope.TheVariants.{Own, Main}
 use Rattle.table.specs.declared.shape.Binary.{Binary}
@@ -106,7 +106,7 @@ pub record FineSignature (s : Signature) : Type 0 where
 -- A function's body: at most 128 levels of nesting, its variables and its height together at most 64.
 pub record FineFunction (e : Env) (f : Function) : Type 0 where
   pub record_fine : FineSignature f.signature
-  pub body-fine : FineB e [] f.body
+  pub body_fine : FineB e [] f.body
   pub nesting : levels_b f.body ≤ 128
   pub cells : length f.signature.variables + height_b f.body ≤ 64
 

@@ -1,5 +1,5 @@
 -- What a run of a program keeps from node to node, and what is reported of it.
-use Rattle.std.specs.Prelude.{ℕ, zero, suc, ◌-◌, List, [], ◌∷◌, length, drop, set, ℤ, pos, slice_index_or, slice_set}
+use Rattle.std.specs.Prelude.{ℕ, zero, suc, ◌-◌, List, [], ◌∷◌, length, drop, ℤ, pos, slice_index_or, slice_set}
 use Rattle.table.specs.declared.shape.Scope.{Scope}
 use Rattle.table.specs.declared.shape.Scope.TheVariants.{Own, Main}
 

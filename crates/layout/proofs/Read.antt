@@ -12,7 +12,7 @@ use Rattle.language.specs.Listing.{Placed, list_p}
 use Rattle.language.specs.Rules.{FineSignature, signatures}
 use Rattle.language.specs.Layout.{layout, kind_bits}
 use Rattle.walk.specs.Bodies.{signature_in, view_of}
-use Rattle.layout.specs.Stored.{Plain, Limits, counts_of, Layouts_read}
+use Rattle.layout.specs.Stored.{Plain, Limits, counts_of, LayoutsRead}
 use Rattle.layout.proofs.Pieces.{nth-within, nth_none, all-nth}
 use Rattle.layout.proofs.KindBits.{kinds-read, kinds-unused}
 use Rattle.layout.proofs.Places.{length-signatures, length-layout, record_byte, node-byte}
@@ -70,7 +70,7 @@ module _ (P : Program) (l : Limits P) where
       node-read (layout P) (3 + 6 * length P + 3 * (0 + i)) (node_of x.1) (small-aux x.1)
       (λ j m. node-byte P i j (3 + 6 * length P + 3 * (0 + i) + j) x h m (omega arith))
 
-pub layouts_read : Layouts_read
+pub layouts_read : LayoutsRead
 layouts_read P l =
     record {
       header = rw (read-header P l, read_records P l);

@@ -10,7 +10,7 @@ use Rattle.table.specs.declared.record.TableFault.{TableFault}
 use Rattle.table.specs.declared.shape.Kind.{Kind}
 use Rattle.language.specs.Rules.{FineSignature}
 use Rattle.walk.specs.Bodies.{signature_of}
-use Rattle.layout.specs.Stored.{Recorded, Layouts_recorded}
+use Rattle.layout.specs.Stored.{Recorded, LayoutsRecorded}
 use Rattle.layout.proofs.Records.{Fits, fields_of, each_holds}
 
 -- header and records both pass
@@ -46,6 +46,6 @@ record_back bs f (Some g) e h =
       plain = λ z. plain_back g.result g.parameters (rw (ap (λ x. eqb x 0) z) at h);
     }
 
-pub layouts_recorded : Layouts_recorded
+pub layouts_recorded : LayoutsRecorded
 layouts_recorded bs h p f l =
     record_back bs f (function_at bs f) refl (each_holds bs h.functions 0 f (passed bs h p).1 (omega arith) (omega arith))

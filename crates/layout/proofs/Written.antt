@@ -14,7 +14,7 @@ use Rattle.language.specs.Listing.{Placed, list_p}
 use Rattle.language.specs.Rules.{signatures}
 use Rattle.language.specs.Layout.{layout, header_bytes, signature_bytes, kind_bits, node_bytes}
 use Rattle.walk.specs.Bodies.{signature_of, signature_in, view_of}
-use Rattle.layout.specs.Stored.{Agrees, Bytes, Layouts_written}
+use Rattle.layout.specs.Stored.{Agrees, Bytes, LayoutsWritten}
 use Rattle.layout.proofs.Pieces.{At, nth_none}
 use Rattle.layout.proofs.KindBits.{kinds_written}
 use Rattle.layout.proofs.Headers.{header_back, header_written}
@@ -90,7 +90,7 @@ module _ (bs : List ℕ) (h : Header) (P : Program) (b : Bytes bs) (a : Agrees b
           let e : 3 + 6 * length P + 3 * (r / 3) + r % 3 ≡ i = omega arith in
           rw e at (node_same (r / 3) (r % 3) (omega (arith, length-layout P)) (omega arith) (slice_get (list_p P) (r / 3)) refl)
 
-pub layouts_written : Layouts_written
+pub layouts_written : LayoutsWritten
 layouts_written bs h P b a =
     let w = header_back bs h (passed bs h a.passes).0 in
     ext_get_or 0 (layout P) bs (omega (arith, length-layout P, a.many, a.long)) (byte_same bs h P b a)

@@ -1,5 +1,5 @@
 -- What a program's table says of its functions and nodes, and that nothing else says so.
-use Rattle.std.specs.Prelude.{◌≡◌, ℕ, ◌+◌, ◌<◌, ◌≤◌, List, [], ◌∷◌, length, Some, None, Ok, Option, slice_index}
+use Rattle.std.specs.Prelude.{◌≡◌, ℕ, ◌+◌, ◌<◌, ◌≤◌, List, [], ◌∷◌, length, Some, None, Ok, slice_index}
 use Rattle.std.specs.List.{AllByRecursion, slice_get}
 use Rattle.table.specs.Fields.{layout_of, function_at}
 use Rattle.table.specs.Shapes.{node_of}
@@ -39,8 +39,8 @@ pub record Shown (P : Program) : Type 0 where
   pub functions : (f : ℕ) → signature_in (view_of (layout P) (counts_of P)) f ≡ slice_get (signatures P) f
   pub nodes : Stored (view_of (layout P) (counts_of P)) 0 (list_p P)
 
-abbrev pub Layouts_read : Type 0
-Layouts_read = (P : Program) → Limits P → Shown P
+abbrev pub LayoutsRead : Type 0
+LayoutsRead = (P : Program) → Limits P → Shown P
 
 -- bytes whose layout passes, and a program that has their functions and nodes
 pub record Agrees (bs : List ℕ) (h : Header) (P : Program) : Type 0 where
@@ -54,8 +54,8 @@ abbrev pub Bytes : List ℕ → Type 0
 Bytes bs = (p : ℕ) → slice_index bs p < 256
 
 -- they are its table
-abbrev pub Layouts_written : Type 0
-Layouts_written = (bs : List ℕ) (h : Header) (P : Program) → Bytes bs → Agrees bs h P → layout P ≡ bs
+abbrev pub LayoutsWritten : Type 0
+LayoutsWritten = (bs : List ℕ) (h : Header) (P : Program) → Bytes bs → Agrees bs h P → layout P ≡ bs
 
 -- where the layout passes, every function has a record that keeps the limits, and main's is plain
 pub record Recorded (bs : List ℕ) (f : ℕ) : Type 0 where
@@ -64,5 +64,5 @@ pub record Recorded (bs : List ℕ) (f : ℕ) : Type 0 where
   pub fine : FineSignature (signature_of function)
   pub plain : f ≡ 0 → ((signature_of function).result ≡ None) × ((signature_of function).parameters ≡ 0)
 
-abbrev pub Layouts_recorded : Type 0
-Layouts_recorded = (bs : List ℕ) (h : Header) → layout_of bs ≡ Ok h → (f : ℕ) → f < h.functions → Recorded bs f
+abbrev pub LayoutsRecorded : Type 0
+LayoutsRecorded = (bs : List ℕ) (h : Header) → layout_of bs ≡ Ok h → (f : ℕ) → f < h.functions → Recorded bs f

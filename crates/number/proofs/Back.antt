@@ -1,5 +1,5 @@
 -- What is written is read back.
-use Rattle.std.proofs.Common.{◌≡◌, ℕ, ◌+◌, ◌^◌, ◌<◌, true, false, leb, List, ◌∷◌, ◌++◌, length, get_or, take, ℤ, pos, negsuc, nat_abs, Some, decimal as unsigned, sym, refl, ap, ◌∙◌, arith, length-append, w16, SFits, to_z, of_z}
+use Rattle.std.proofs.Common.{◌≡◌, ℕ, ◌+◌, ◌^◌, ◌<◌, true, false, leb, List, ◌∷◌, ◌++◌, length, take, ℤ, pos, negsuc, nat_abs, Some, decimal as unsigned, sym, refl, ap, ◌∙◌, arith, length-append, w16, SFits, to_z, of_z}
 use lib.Signed.{le_z}
 use Rattle.std.proofs.lemmas.List.{get_or_append_left, take_at, get_or_at}
 use Rattle.std.proofs.lemmas.Int.{ints, to_z-of_z}

@@ -1,5 +1,5 @@
 -- Exact results in 32 bits: what the code works out by the bits of two numbers of 16 bits is the operation on the numbers.
-use Rattle.std.proofs.Common.{◌≡◌, ℕ, suc, ◌+◌, ◌*◌, ◌<◌, ◌≤◌, eqb, ℤ, pos, negsuc, ◌+ℤ◌, ◌-ℤ◌, ◌*ℤ◌, Some, None, sym, refl, ap, ◌∙◌, mul-le-mul, div-le_self, arith, w16, w32, SFits, to_z, of_z}
+use Rattle.std.proofs.Common.{◌≡◌, ℕ, suc, ◌*◌, ◌<◌, ◌≤◌, eqb, ℤ, pos, negsuc, ◌+ℤ◌, ◌-ℤ◌, ◌*ℤ◌, Some, None, sym, refl, ap, ◌∙◌, mul-le-mul, div-le_self, arith, w16, w32, SFits, to_z, of_z}
 use lib.Signed.{quot_z, rem_z, mag, mag_rem}
 use Rattle.std.proofs.lemmas.Int.{ints, to_z-of_z}
 use Rattle.number.specs.Number.{Kind, Within, int, folded, equal, unless_zero}

@@ -1,5 +1,5 @@
 -- How a reading is judged, and that more bytes do not change what has been settled.
-use Rattle.std.proofs.Common.{◌≡◌, ℕ, ◌+◌, ◌<◌, ◌≤◌, true, false, cond, ◌⊎◌, List, ◌++◌, length, get_or, take, drop, ℤ, pos, nat_abs, Some, None, Option, sym, refl, ap, ◌∙◌, inl, inr, arith, length-append, take-append-drop, w16, w32, to_z, of_z}
+use Rattle.std.proofs.Common.{◌≡◌, ℕ, ◌+◌, ◌<◌, ◌≤◌, true, false, ◌⊎◌, List, ◌++◌, length, take, drop, ℤ, pos, nat_abs, Some, None, Option, sym, refl, ap, ◌∙◌, inl, inr, arith, length-append, take-append-drop, w16, w32, to_z, of_z}
 use Rattle.std.proofs.lemmas.List.{get_or_append_left, take-append-le, take_all, length-take-le}
 use Rattle.std.proofs.lemmas.Bool.{lt-ltb, le-ltb, cases_lt, cond_both}
 use Rattle.std.proofs.lemmas.Int.{ints}

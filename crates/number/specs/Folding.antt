@@ -79,11 +79,11 @@ fold_less k c n r e h =
     let m = t.small in
     only k c n (r -ℤ pos k.span) (t.times +ℤ pos 1) (record { least = omega (arith, ints); most = omega (arith, ints) }) (more n t.rest t.times k.span r w (omega (arith, ints)))
 
-pub int-cells : Cells int
-int-cells = record { bottom = search rules; nought = search rules; past = search rules; top = search rules; counted = refl }
+pub int_cells : Cells int
+int_cells = record { bottom = search rules; nought = search rules; past = search rules; top = search rules; counted = refl }
 
-pub byte-cells : Cells byte
-byte-cells = record { bottom = search rules; nought = search rules; past = search rules; top = search rules; counted = refl }
+pub byte_cells : Cells byte
+byte_cells = record { bottom = search rules; nought = search rules; past = search rules; top = search rules; counted = refl }
 
 -- A number of the kind stays as it is.
 pub folded-within : (k : Kind) → Cells k → (n : ℤ) → Within k n → folded k n ≡ n

@@ -1,8 +1,8 @@
 // The kinds of number.
 ghost use Rattle.std.specs.Prelude.{◌≡◌, pos};
 ghost use Rattle.number.specs.Number.{Kind, Cells, Folding, int, byte};
-ghost use Rattle.number.specs.Folding.{int-cells, byte-cells};
-ghost use Rattle.number.specs.Folding as ProofsFolding;
+ghost use Rattle.number.specs.Folding.{int_cells, byte_cells};
+ghost use Rattle.number.specs.Folding as FoldingLaw;
 
 // A kind of number. In code over any kind the constants are known by the three functions.
 pub trait NumberKind {
@@ -41,9 +41,9 @@ impl NumberKind for Int {
 
     ghost kind = { int };
 
-    ghost cells = { int-cells };
+    ghost cells = { int_cells };
 
-    ghost folding = { ProofsFolding.folding int int-cells };
+    ghost folding = { FoldingLaw.folding int int_cells };
 
     fn lowest() -> i32 {
         Self::LOW
@@ -67,9 +67,9 @@ impl NumberKind for Byte {
 
     ghost kind = { byte };
 
-    ghost cells = { byte-cells };
+    ghost cells = { byte_cells };
 
-    ghost folding = { ProofsFolding.folding byte byte-cells };
+    ghost folding = { FoldingLaw.folding byte byte_cells };
 
     fn lowest() -> i32 {
         Self::LOW

@@ -14,7 +14,7 @@ use Rattle.machine.specs.declared.plan.Plan.TheVariants.{Went, Fault}
 use Rattle.machine.specs.View.{Act, state}
 use Rattle.machine.specs.Values.{apply_unary as changes, apply_binary as joins, compared, is_true}
 use Rattle.machine.specs.Acts.{pushed, loaded, stored, dropped, changed, joined, branched, tested}
-use Rattle.machine.specs.States.{settled, main_variables as mainsOf, from_main, to_main, has_result, entry_at, called, run}
+use Rattle.machine.specs.States.{settled, main_variables as mains_of, from_main, to_main, has_result, entry_at, called, run}
 use Rattle.language.specs.State.{State, main_variables, get, put, last_of, set_main, opened, fill, activations}
 use Rattle.simulation.proofs.Rows.{Frame, acts, Scene, top_act, machine_at, Shape, even, acts-length, mains, put-main, onto, args-onto, drop-onto, length-onto, filled}
 
@@ -81,7 +81,7 @@ module _ (code : List ℕ) (c : Scene) (a p : ℕ) (o : List ℤ) (s : State) wh
   unfolding settled dropped
   does_drop v = refl
 
-  store_main : (x : ℕ) (v : ℤ) (rs : List (List ℤ)) (fs : List Frame) → length rs ≡ length fs → 0 < length rs → mainsOf (top_act (v ∷ o) c s ∷ acts rs fs) ≡ last_of s.own rs → x < length (last_of s.own rs)
+  store_main : (x : ℕ) (v : ℤ) (rs : List (List ℤ)) (fs : List Frame) → length rs ≡ length fs → 0 < length rs → mains_of (top_act (v ∷ o) c s ∷ acts rs fs) ≡ last_of s.own rs → x < length (last_of s.own rs)
       → to_main x p (a + 1) (state (top_act (v ∷ o) c s ∷ acts rs fs) a) ≡ (state (top_act o c s ∷ acts (set_main rs x v) fs) (a + 1), Went)
   unfolding to_main dropped
   store_main x v [] fs m l q h = absurd (omega arith)

@@ -15,7 +15,7 @@ use Rattle.language.specs.Tree.{Signature, Function, Program}
 use Rattle.language.specs.Laws.{◌⊑◌}
 use Rattle.language.specs.Rules.{is_open, parameter_kinds, FineFunction, FineOthers, signatures, main_env, other_env}
 use Rattle.language.specs.State.{State, running, at_end, at_fault, stopped, opened, closed, fill}
-use Rattle.language.specs.Meaning.{Rest, halt, no_return, body, back, to_caller, body_end, place_of, whole_body, empty, function_at, variables_for, functions, walk}
+use Rattle.language.specs.Meaning.{Rest, halt, no_return, back, to_caller, body_end, place_of, whole_body, empty, function_at, variables_for, functions, walk}
 use Rattle.language.specs.Ranges.{Fitting}
 use Rattle.language.proofs.Ranges.{RowsFit, last_row, fill_fits, ResultOf}
 use Rattle.simulation.specs.Runs.{machine_report}
@@ -115,7 +115,7 @@ module _ (code : List ℕ) (m : Function) (fs : List Function) (fine : FineOther
       → (s : State) (out : List ℕ) → Shape c s → Sim code j d (whole_body (suc g) (functions (m ∷ fs) g) f (to_caller k) (opened (variables_for f vs) s)) (world_at at [] (callee c o f.signature.variables (has_result f.signature.result) ra) (opened (variables_for f vs) s) out)
   one-call g calls f at t h x j d vs k ra o c l last match z w K s out S =
       (sim_b code m.signature.variables address g (functions (m ∷ fs) g) (other_env (m ∷ fs) m.signature f.signature) calls entries
-      (callee c o f.signature.variables (has_result f.signature.result) ra) refl last (ap suc match) (λ x k t. (t, omega arith)) (suc g) (omega arith) f.body l at [] t.body-fine h t.cells
+      (callee c o f.signature.variables (has_result f.signature.result) ra) refl last (ap suc match) (λ x k t. (t, omega arith)) (suc g) (omega arith) f.body l at [] t.body_fine h t.cells
       (record {
         breaks = λ x u. absurd (none_open x u);
         conts = λ x u. absurd (none_open x u);
@@ -157,7 +157,7 @@ module _ (code : List ℕ) (m : Function) (fs : List Function) (fine : FineOther
   unfolding walk
   sim-main g j l none t =
       sim_b code m.signature.variables address g (functions (m ∷ fs) g) (main_env (m ∷ fs) m.signature) (calls g) entries main_scene refl refl refl
-      (λ x k t. let z : ◌≡◌ {A = ℕ} 0 1 = cc in absurd (omega arith)) g (omega arith) m.body l (address 0) [] t.body-fine (bodies.stands 0 (omega arith)) t.cells
+      (λ x k t. let z : ◌≡◌ {A = ℕ} 0 1 = cc in absurd (omega arith)) g (omega arith) m.body l (address 0) [] t.body_fine (bodies.stands 0 (omega arith)) t.cells
       (record {
         breaks = λ x u. absurd (none_open x u);
         conts = λ x u. absurd (none_open x u);

@@ -80,7 +80,7 @@ module _ (code : List ℕ) where
   others-at P m k numbers [] h f n l S i q = absurd (omega arith)
   others-at P m k numbers (x ∷ fs) h f n l S zero q =
       let r = split code (code_body x.body h) _ h (h + words_b x.body + 1) (omega (arith, body-length x.body h)) S in
-      one-body (other_env P m x.signature) (slots-other x.signature m f.0.record_fine k) numbers x.body h f.0.body-fine (small-split (list_b x.body) (list_p fs) n).0 (omega arith) r.0
+      one-body (other_env P m x.signature) (slots-other x.signature m f.0.record_fine k) numbers x.body h f.0.body_fine (small-split (list_b x.body) (list_p fs) n).0 (omega arith) r.0
   others-at P m k numbers (x ∷ fs) h f n l S (suc i) q =
       let r = split code (code_body x.body h) _ h (h + words_b x.body + 1) (omega (arith, body-length x.body h)) S in
       others-at P m k numbers fs (h + words_b x.body + 1) f.1 (small-split (list_b x.body) (list_p fs) n).1 (omega arith) r.1 i (omega arith)
@@ -127,7 +127,7 @@ module _ (code : List ℕ) where
     every : (i : ℕ) → i < length (m ∷ fs) → HasB code (function_at (m ∷ fs) i).body [] (address i) × At code (end_b (function_at (m ∷ fs) i).body (address i)) Close (place_of (function_at (m ∷ fs) i).body)
     every zero l =
         let r = split code (code_body m.body (length (m ∷ fs))) _ (length (m ∷ fs)) (length (m ∷ fs) + words_b m.body + 1) (omega (arith, body-length m.body (length (m ∷ fs)))) parts.1 in
-        one-body (main_env (m ∷ fs) m.signature) (slots-main m.signature fine-main.record_fine) numbers m.body (length (m ∷ fs)) fine-main.body-fine (small-split (list_b m.body) (list_p fs) small).0 (let w = few_words (m ∷ fs) keeps in omega arith) r.0
+        one-body (main_env (m ∷ fs) m.signature) (slots-main m.signature fine-main.record_fine) numbers m.body (length (m ∷ fs)) fine-main.body_fine (small-split (list_b m.body) (list_p fs) small).0 (let w = few_words (m ∷ fs) keeps in omega arith) r.0
     every (suc i) l =
         let r = split code (code_body m.body (length (m ∷ fs))) _ (length (m ∷ fs)) (length (m ∷ fs) + words_b m.body + 1) (omega (arith, body-length m.body (length (m ∷ fs)))) parts.1 in
         others-at (m ∷ fs) m.signature fine-main.record_fine numbers fs (length (m ∷ fs) + words_b m.body + 1) keeps.functions.3 (small-split (list_b m.body) (list_p fs) small).1 (let w = few_words (m ∷ fs) keeps in omega arith) r.1 i (omega arith)

@@ -6,7 +6,7 @@ use Rattle.language.proofs.Ranges.{RowsFit, Shaped}
 use Rattle.machine.specs.declared.plan.Latch.TheVariants.{Open}
 use Rattle.machine.specs.View.{Act, State as Machine, state}
 use Rattle.machine.specs.Acts.{with_vars}
-use Rattle.machine.specs.States.{main_of, put_main, main_variables as mainsOf, args}
+use Rattle.machine.specs.States.{main_of, put_main, main_variables as mains_of, args}
 use Rattle.machine.specs.Steps.{World, world}
 
 -- What the machine keeps of an activation beside its variables.
@@ -61,8 +61,8 @@ main_last a [] fs e = refl
 main_last a (r ∷ rs) [] e = absurd (omega arith)
 main_last a (r ∷ rs) (f ∷ fs) e = main_last (act_with r f) rs fs (omega arith)
 
-pub mains : (a : ℕ) (o : List ℤ) (c : Scene) (s : State) → length c.rows ≡ length c.frames → Shape c s → mainsOf (machine_at a o c s).acts ≡ main_variables s
-unfolding mainsOf
+pub mains : (a : ℕ) (o : List ℤ) (c : Scene) (s : State) → length c.rows ≡ length c.frames → Shape c s → mains_of (machine_at a o c s).acts ≡ main_variables s
+unfolding mains_of
 mains a o c s m S = main_last (top_act o c s) s.callers c.frames (even c.rows s.callers S.callers ∙ m)
 
 -- main's variable set, from another function

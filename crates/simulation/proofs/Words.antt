@@ -9,7 +9,7 @@ use Rattle.machine.specs.declared.plan.Plan.{Plan}
 use Rattle.machine.specs.declared.plan.Plan.TheVariants.{Went, Over, Fault}
 use Rattle.machine.specs.declared.plan.Latch.TheVariants.{Open}
 use Rattle.machine.specs.View.{Act, State as Machine, state, cause_number}
-use Rattle.machine.specs.States.{main_variables as mainsOf, run, advanced}
+use Rattle.machine.specs.States.{main_variables as mains_of, run, advanced}
 use Rattle.machine.specs.Steps.{world, performed, stepped}
 use Rattle.machine.proofs.Tables.{fetch_in}
 use Rattle.language.specs.State.{State, Report, at_end, at_fault, stopped, main_variables}
@@ -39,8 +39,8 @@ module _ (code : List ℕ) (x : Act) (xs : List Act) (a : ℕ) (i : Instruction)
   pub goes : {j k d : ℕ} {X : ℕ → Report} (m : Machine) → j ≤ suc k → run i p (a + 1) code (state (x ∷ xs) a) ≡ (m, Went) → Sim code k d X (world m Open ws ss r) → Sim code j (suc d) X (world (state (x ∷ xs) a) Open ws ss r)
   goes m l e S = steps l (planned code x xs a i p m Went ws ss r h e) (quiet (state (x ∷ xs) a) m ws ss r) S
 
-  pub fails : {j d : ℕ} (m : Machine) (c : Cause) (s : State) → run i p (a + 1) code (state (x ∷ xs) a) ≡ (m, Fault c p) → mainsOf m.acts ≡ main_variables s → Sim code j (suc d) (λ n. stopped (at_fault (cause_number c) p) s) (world (state (x ∷ xs) a) Open ws ss r)
+  pub fails : {j d : ℕ} (m : Machine) (c : Cause) (s : State) → run i p (a + 1) code (state (x ∷ xs) a) ≡ (m, Fault c p) → mains_of m.acts ≡ main_variables s → Sim code j (suc d) (λ n. stopped (at_fault (cause_number c) p) s) (world (state (x ∷ xs) a) Open ws ss r)
   fails m c s e q = stops (at_fault (cause_number c) p) s (planned code x xs a i p m (Fault c p) ws ss r h e) (λ R. rw q refl)
 
-  pub finishes : {j d : ℕ} (m : Machine) (s : State) → run i p (a + 1) code (state (x ∷ xs) a) ≡ (m, Over) → mainsOf m.acts ≡ main_variables s → Sim code j (suc d) (λ n. stopped at_end s) (world (state (x ∷ xs) a) Open ws ss r)
+  pub finishes : {j d : ℕ} (m : Machine) (s : State) → run i p (a + 1) code (state (x ∷ xs) a) ≡ (m, Over) → mains_of m.acts ≡ main_variables s → Sim code j (suc d) (λ n. stopped at_end s) (world (state (x ∷ xs) a) Open ws ss r)
   finishes m s e q = stops at_end s (planned code x xs a i p m Over ws ss r h e) (λ R. rw q refl)

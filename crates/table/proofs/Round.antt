@@ -1,10 +1,9 @@
 -- A record and its node determine each other.
-use Rattle.std.proofs.Common.{◌≡◌, ℕ, ◌<◌, ◌≤◌, Bool, true, false, cond, ◌&&◌, eqb, ltb, leb, ◌⊎◌, Some, None, Option, sym, refl, ap, ◌∙◌, subst, inl, inr, arith}
+use Rattle.std.proofs.Common.{◌≡◌, ℕ, ◌<◌, ◌≤◌, Bool, true, false, cond, ◌&&◌, eqb, ltb, leb, Some, None, Option, refl, ap, ◌∙◌, arith}
 use Rattle.std.proofs.lemmas.Bool.Decides.{nat_tests}
 use Rattle.table.specs.Flow.{mapped}
-use Rattle.table.specs.Shapes.{node, scope_of, format_of, constant_of, operator_of, expression_of, test_of, condition_of, if_of, bare_of, act_of, statement_of, block_of, only, shape_of, of_expression, of_condition, of_statement, node_of, scope_number, format_number, ConstantFits, ExpressionFits, ShapeFits, Decodes}
+use Rattle.table.specs.Shapes.{node, scope_of, format_of, constant_of, operator_of, expression_of, test_of, condition_of, if_of, act_of, statement_of, block_of, only, shape_of, of_expression, of_condition, of_statement, node_of, scope_number, format_number, ExpressionFits, ShapeFits, Decodes}
 use Rattle.table.specs.declared.record.Node.{Node}
-use Rattle.table.specs.declared.shape.Kind.{Kind}
 use Rattle.table.specs.declared.shape.Kind.TheVariants.{Int, Byte}
 use Rattle.table.specs.declared.shape.Scope.{Scope}
 use Rattle.table.specs.declared.shape.Scope.TheVariants.{Own, Main}

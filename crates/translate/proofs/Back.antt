@@ -10,7 +10,7 @@ use Rattle.language.specs.Layout.{layout}
 use Rattle.walk.specs.Bodies.{signature_of, env_of, view_of}
 use Rattle.walk.specs.declared.found.Context.{Context}
 use Rattle.walk.specs.declared.found.Passed.{Passed}
-use Rattle.layout.specs.Stored.{counts_of as headerFor}
+use Rattle.layout.specs.Stored.{counts_of as header_for}
 use Rattle.layout.proofs.Places.{length-layout}
 use Rattle.layout.proofs.Read.{layouts_read}
 use Rattle.checker.specs.Exact.{Only}
@@ -46,10 +46,10 @@ module _ (v : View) where
       ∙ ap (λ (x : List Function). g ∷ x) (functions_back gs (f + 1) (i + length (list_b g.body)) b.1)
 
 -- a program that keeps the rules is read off its own table
-program_back : (P : Program) → Keeps P → functions_from (view_of (layout P) (headerFor P)) (length P) 0 0 ≡ P
+program_back : (P : Program) → Keeps P → functions_from (view_of (layout P) (header_for P)) (length P) 0 0 ≡ P
 program_back P k =
     let s = layouts_read P (program_limits P k) in
-    let v = view_of (layout P) (headerFor P) in
+    let v = view_of (layout P) (header_for P) in
     functions_back v P 0 0 (program-bodied v P s.functions k.functions (spells-from v 0 (list_p P) s.nodes k.numbered (program_fits P k.functions)))
 
 -- the table t is that of one program

@@ -1,11 +1,11 @@
 -- The functions of a program, one by one.
-use Rattle.std.proofs.Common.{◌≡◌, ℕ, zero, suc, ◌+◌, ◌-◌, ◌<◌, ◌≤◌, [], ◌∷◌, length, Some, None, Option, refl, arith}
+use Rattle.std.proofs.Common.{◌≡◌, ℕ, zero, suc, ◌+◌, ◌-◌, ◌<◌, ◌∷◌, length, Some, None, Option, refl, arith}
 use Rattle.std.proofs.lemmas.List.FromFn.{length-map-range_with_len}
 use Rattle.table.specs.Fields.{variables_of, kind_bit}
 use Rattle.table.specs.Shapes.{shape_of}
 use Rattle.table.specs.View.{View, node_at}
 use Rattle.table.specs.declared.record.Function.{Function as Record}
-use Rattle.language.specs.Tree.{Stmt, block}
+use Rattle.language.specs.Tree.{Stmt}
 use Rattle.language.specs.Rules.{Env}
 use Rattle.language.specs.Reader.{body_of, read_s, read_b_at, read_b}
 use Rattle.walk.specs.Bodies.{signature_of}

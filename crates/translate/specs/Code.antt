@@ -65,7 +65,7 @@ target_of m (x ∷ xs) = cond (m == 0 || x.name == m) x (target_of m xs)
 
 -- A statement and a block from address h on, in the open loops ts.
 --   if:       the condition jumps behind the block when it fails
---   ifElse:   it jumps to the second block; the if's own word, behind the first block, jumps behind the second
+--   if_else:  it jumps to the second block; the if's own word, behind the first block, jumps behind the second
 --   loop:     its own word, behind its block, jumps back to the block
 --   break:    jumps behind the loop's own word
 --   continue: jumps to the loop's block

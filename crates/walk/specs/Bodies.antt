@@ -1,5 +1,5 @@
 -- The check of a whole table.
-use Rattle.std.specs.Prelude.{ℕ, zero, suc, ◌+◌, cond, List, [], Some, None, Ok, Err, Option, Result, ◌==◌, nat_le, nat_lt}
+use Rattle.std.specs.Prelude.{ℕ, zero, suc, ◌+◌, cond, List, [], None, Ok, Err, Option, Result, ◌==◌, nat_le, nat_lt}
 use Rattle.std.specs.Option.{ok_or}
 use Rattle.table.specs.Flow.{onward, mapped}
 use Rattle.table.specs.Fields.{layout_of, variables_of}
@@ -11,7 +11,6 @@ use Rattle.table.specs.declared.record.TableFault.TheVariants.{Record}
 use Rattle.language.specs.Tree.{Signature}
 use Rattle.language.specs.Rules.{Env}
 use Rattle.walk.specs.Walk.{Answer, block_from}
-use Rattle.walk.specs.declared.fault.CheckFault.{CheckFault}
 use Rattle.walk.specs.declared.fault.CheckFault.TheVariants.{Table, NoNode, Height}
 use Rattle.walk.specs.declared.found.Size.{Size}
 use Rattle.walk.specs.declared.found.Context.{Context}

@@ -7,7 +7,6 @@ use Rattle.table.specs.Shapes.{shape_of}
 use Rattle.table.specs.View.{View, node_at}
 use Rattle.table.specs.declared.shape.Kind.{Kind}
 use Rattle.table.specs.declared.shape.Kind.TheVariants.{Int, Byte}
-use Rattle.table.specs.declared.shape.Unary.{Unary}
 use Rattle.table.specs.declared.shape.Binary.{Binary}
 use Rattle.table.specs.declared.shape.Binary.TheVariants.{Add, Sub, Mul, Div, Rem, ByteAnd, ByteOr}
 use Rattle.table.specs.declared.shape.Expression.{Expression}

@@ -1,4 +1,4 @@
-use Rattle.std.proofs.Common.{take, sym, refl, arith}
+use Rattle.std.proofs.Common.{sym, refl, arith}
 use Rattle.std.proofs.lemmas.Bool.{eqb-true, eqb-false}
 use Rattle.number.specs.Reading.{value_after}
 use Rattle.number.proofs.Figures.{value_more, digits_more, value_small, numeral-empty, numeral-other, numeral-read}

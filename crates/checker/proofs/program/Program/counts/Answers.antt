@@ -1,4 +1,4 @@
-use Rattle.std.proofs.Common.{◌≡◌, ℕ, List, Ok, sym, ap, subst, rules}
+use Rattle.std.proofs.Common.{ℕ, List, Ok, sym, subst}
 use Rattle.layout.specs.Stored.{Bytes}
 use Rattle.checker.specs.Held.{held}
 use Rattle.checker.proofs.Exactly.{exactly}

@@ -1,7 +1,6 @@
-use Rattle.std.proofs.Common.{◌≡◌, ◌-◌, length, w16, rules}
+use Rattle.std.proofs.Common.{◌≡◌, length, w16, rules}
 use Rattle.std.proofs.lemmas.Int.{to_z-of_z}
 use Rattle.machine.specs.View.{seen}
-use Rattle.machine.specs.States.{args}
 use Rattle.machine.proofs.Cells.{set_var, set_none}
 use Rattle.machine.proofs.state.Activation.assign.Goals as goal
 

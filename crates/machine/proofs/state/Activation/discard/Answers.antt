@@ -1,4 +1,3 @@
-use Rattle.std.proofs.Common.{◌-◌}
 use Rattle.machine.specs.View.{seen, act_of}
 use Rattle.machine.specs.Acts.{with_ops, dropped}
 use Rattle.machine.specs.declared.plan.Effect.TheVariants.{Next}

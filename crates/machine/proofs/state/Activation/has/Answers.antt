@@ -1,6 +1,5 @@
-use Rattle.std.proofs.Common.{◌≡◌, ℕ, ◌-◌, ltb, length, sym, ap, arith, rules}
+use Rattle.std.proofs.Common.{◌≡◌, ℕ, ltb, length, sym, ap, arith, rules}
 use Rattle.machine.specs.View.{seen}
-use Rattle.machine.specs.States.{args}
 use Rattle.machine.proofs.Cells.{vars_are}
 use Rattle.machine.proofs.state.Activation.has.Goals as goal
 

@@ -1,4 +1,4 @@
-use Rattle.std.proofs.Common.{◌≡◌, ◌-◌, length, get_or, pos, ◌∙◌, w16, SFits, rules}
+use Rattle.std.proofs.Common.{◌≡◌, length, get_or, pos, ◌∙◌, w16, SFits, rules}
 use Rattle.std.proofs.lemmas.Int.{to_z-of_z}
 use Rattle.machine.specs.View.{seen}
 use Rattle.machine.proofs.Cells.{load_none, load_there}

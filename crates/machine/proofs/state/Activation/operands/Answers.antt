@@ -1,6 +1,5 @@
 use Rattle.std.proofs.Common.{◌-◌, sym, refl}
 use Rattle.machine.specs.View.{seen}
-use Rattle.machine.specs.States.{args}
 use Rattle.machine.proofs.Cells.{length_down}
 use Rattle.machine.proofs.state.Activation.operands.Goals as goal
 

@@ -1,4 +1,4 @@
-use Rattle.std.proofs.Common.{◌≡◌, ◌-◌, length, w16, rules}
+use Rattle.std.proofs.Common.{◌≡◌, length, w16, rules}
 use Rattle.std.proofs.lemmas.Int.{to_z-of_z}
 use Rattle.machine.specs.View.{seen}
 use Rattle.machine.proofs.Cells.{push_full, push_room}

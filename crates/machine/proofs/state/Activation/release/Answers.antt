@@ -1,7 +1,6 @@
 use Rattle.std.proofs.Common.{◌≡◌, ℕ, ◌-◌, sym, ap, ◌∙◌, arith}
 use Rattle.machine.specs.View.{seen, down}
 use Rattle.machine.specs.Acts.{with_ops}
-use Rattle.machine.specs.States.{args}
 use Rattle.machine.proofs.Cells.{length_down}
 use Rattle.machine.proofs.Passed.{drop_down}
 use Rattle.machine.proofs.state.Activation.release.Goals as goal

@@ -1,7 +1,6 @@
-use Rattle.std.proofs.Common.{◌≡◌, ◌-◌, length, get_or, pos, w16, SFits, rules}
+use Rattle.std.proofs.Common.{◌≡◌, length, get_or, pos, w16, SFits, rules}
 use Rattle.std.proofs.lemmas.Int.{to_z-of_z}
 use Rattle.machine.specs.View.{seen}
-use Rattle.machine.specs.States.{args}
 use Rattle.machine.proofs.Cells.{variable_none, variable-there}
 use Rattle.machine.proofs.state.Activation.variable.Goals as goal
 

@@ -1,6 +1,5 @@
-use Rattle.std.proofs.Common.{◌-◌, Some, None, ◌∙◌}
+use Rattle.std.proofs.Common.{Some, None, ◌∙◌}
 use Rattle.machine.specs.View.{view}
-use Rattle.machine.specs.States.{args, run}
 use Rattle.machine.proofs.Tables.{fetch-out, fetch_in}
 use Rattle.machine.proofs.state.Core.fetch.Goals as goal
 

@@ -3,7 +3,6 @@ use Rattle.std.proofs.lemmas.Int.{to_z-of_z}
 use Rattle.machine.specs.declared.state.Activation.{Activation}
 use Rattle.machine.specs.View.{seen, view}
 use Rattle.machine.specs.Acts.{size, first}
-use Rattle.machine.specs.States.{args}
 use Rattle.machine.proofs.Tables.{return-main, return_not, return_none, return_full, return_in, any_default}
 use Rattle.machine.proofs.state.Core.give_back.Goals as goal
 

@@ -1,7 +1,6 @@
 use Rattle.std.proofs.Common.{◌-◌, ◌≤◌, length, ap, ◌∙◌, arith}
 use Rattle.machine.specs.declared.state.Activation.{Activation}
 use Rattle.machine.specs.View.{seen, view}
-use Rattle.machine.specs.States.{args}
 use Rattle.machine.proofs.Tables.{leave_main, leave_gives, leave_back, any_default}
 use Rattle.machine.proofs.state.Core.leave.Goals as goal
 

@@ -1,8 +1,8 @@
-use Rattle.std.proofs.Common.{◌≡◌, ◌-◌, ◌≤◌, length, ◌∙◌, arith, w16, SFits, rules}
+use Rattle.std.proofs.Common.{◌≡◌, ◌≤◌, length, ◌∙◌, arith, w16, SFits, rules}
 use Rattle.std.proofs.lemmas.Int.{to_z-of_z}
 use Rattle.machine.specs.View.{view}
 use Rattle.machine.specs.Acts.{pushed}
-use Rattle.machine.specs.States.{settled, args}
+use Rattle.machine.specs.States.{settled}
 use Rattle.machine.proofs.Tables.{load_main_none, load_main_some}
 use Rattle.machine.proofs.state.Core.load_main.Goals as goal
 

@@ -1,4 +1,4 @@
-use Rattle.std.proofs.Common.{◌-◌, ◌≤◌, length, ◌∙◌, arith, w16}
+use Rattle.std.proofs.Common.{◌≤◌, length, ◌∙◌, arith, w16}
 use Rattle.std.proofs.lemmas.Int.{to_z-of_z}
 use Rattle.machine.specs.View.{view}
 use Rattle.machine.specs.Acts.{pushed}

@@ -1,4 +1,4 @@
-use Rattle.std.proofs.Common.{◌-◌, ◌≤◌, length, ◌∙◌, arith}
+use Rattle.std.proofs.Common.{◌≤◌, length, ◌∙◌, arith}
 use Rattle.machine.specs.View.{view}
 use Rattle.machine.specs.Acts.{dropped}
 use Rattle.machine.proofs.Tables.{top-done, settled_none}

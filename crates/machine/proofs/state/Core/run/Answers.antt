@@ -1,6 +1,5 @@
-use Rattle.std.proofs.Common.{◌-◌, ◌≤◌, length, arith}
+use Rattle.std.proofs.Common.{◌≤◌, length, arith}
 use Rattle.machine.specs.View.{view}
-use Rattle.machine.specs.States.{args}
 use Rattle.machine.proofs.Tables.{run-read, run-write}
 use Rattle.machine.proofs.state.Core.run.Goals as goal
 

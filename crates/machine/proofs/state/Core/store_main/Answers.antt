@@ -1,8 +1,7 @@
-use Rattle.std.proofs.Common.{◌-◌, ◌≤◌, ltb, length, set, ap, ◌∙◌, arith, length-set, w16, SFits, rules}
+use Rattle.std.proofs.Common.{◌≤◌, ltb, length, set, ap, ◌∙◌, arith, length-set, w16, SFits, rules}
 use Rattle.std.proofs.lemmas.Int.{to_z-of_z}
 use Rattle.machine.specs.declared.state.Activation.{Activation}
 use Rattle.machine.specs.View.{seen, view}
-use Rattle.machine.specs.States.{args}
 use Rattle.machine.proofs.Tables.{store_main_none, store_main_slot, store_main_there, any_default}
 use Rattle.machine.proofs.state.Core.store_main.Goals as goal
 

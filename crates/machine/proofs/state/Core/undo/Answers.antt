@@ -1,4 +1,4 @@
-use Rattle.std.proofs.Common.{◌-◌, refl}
+use Rattle.std.proofs.Common.{refl}
 use Rattle.machine.specs.View.{view, tops}
 use Rattle.machine.proofs.state.Core.undo.Goals as goal
 
