@@ -1,0 +1,15 @@
+#!/usr/bin/env bash
+# Makes a copy of the repository's last commit in a new folder, with the unfinished work in its place.
+set -eu
+[ $# -eq 1 ] || { echo "usage: take_up.sh FOLDER" >&2; exit 2; }
+top=$(cd "$(dirname "$0")/.." && pwd)
+git clone -q "$top" "$1"
+cd "$1"
+git apply unfinished/landed.patch
+find unfinished/crates -type f | while read -r file; do
+    to=${file#unfinished/}
+    mkdir -p "$(dirname "$to")"
+    cp "$file" "${to%.txt}"
+done
+cp -r unfinished/hosts unfinished/include .
+rm -r unfinished
