@@ -5,4 +5,4 @@ if [ -z "${DANA_LIB_DIR:-}" ]; then
     DANA_LIB_DIR=crates/dana_c/out
 fi
 kit=$(dirname "$(dirname "$(readlink -f "$(command -v rt)")")")
-archives=("$DANA_LIB_DIR/libdana_c.a" "$kit/lib/librattle_c.a")
+archives=("$DANA_LIB_DIR/libdana_c.a" "$kit/c/libos_c.a" "$kit/c/liblibc_c.a")
