@@ -9,7 +9,7 @@ pub struct Header {
 }
 
 // A function's record. The kinds are 32 bits, that of slot 0 the most significant: 0 for int, 1 for byte.
-#[derive(Clone, Copy)]
+#[derive(Clone, Copy, Default)]
 pub struct Function {
     pub result: Option<Kind>,
     pub parameters: u8,

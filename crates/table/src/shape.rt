@@ -1,21 +1,21 @@
 // What a node can be: the node kinds of Dana, sorted by what may stand where.
 
 // The two number kinds.
-#[derive(Clone, Copy)]
+#[derive(Clone, Copy, PartialEq, Eq, Debug)]
 pub enum Kind {
     Int,
     Byte,
 }
 
 // Whose variable is meant: the open function's own, or main's.
-#[derive(Clone, Copy)]
+#[derive(Clone, Copy, PartialEq, Eq, Debug)]
 pub enum Scope {
     Own,
     Main,
 }
 
 // What a read takes and a write sends: the text of an int, the text of a byte, or one byte as it is.
-#[derive(Clone, Copy)]
+#[derive(Clone, Copy, PartialEq, Eq, Debug)]
 pub enum Format {
     Integer,
     Byte,
@@ -23,7 +23,7 @@ pub enum Format {
 }
 
 // The operators with one operand: the signs `+` and `-` of an int, `!` of a byte, and the two conversions.
-#[derive(Clone, Copy)]
+#[derive(Clone, Copy, PartialEq, Eq, Debug)]
 pub enum Unary {
     Plus,
     Minus,
@@ -33,7 +33,7 @@ pub enum Unary {
 }
 
 // The operators with two operands: arithmetic on either kind; `&` and `|` on bytes.
-#[derive(Clone, Copy)]
+#[derive(Clone, Copy, PartialEq, Eq, Debug)]
 pub enum Binary {
     Add,
     Sub,
@@ -45,7 +45,7 @@ pub enum Binary {
 }
 
 // The comparisons `=`, `<>`, `<`, `>`, `<=` and `>=`.
-#[derive(Clone, Copy)]
+#[derive(Clone, Copy, PartialEq, Eq, Debug)]
 pub enum Comparison {
     Equal,
     Unequal,
@@ -56,7 +56,7 @@ pub enum Comparison {
 }
 
 // The ways to join two conditions.
-#[derive(Clone, Copy)]
+#[derive(Clone, Copy, PartialEq, Eq, Debug)]
 pub enum Junction {
     And,
     Or,
