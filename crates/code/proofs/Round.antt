@@ -1,20 +1,24 @@
 -- An instruction and its fields determine each other.
-use Rattle.std.proofs.Common.{◌≡◌, ℕ, ◌<◌, Bool, true, false, cond, ◌&&◌, eqb, ltb, leb, Some, None, Option, sym, refl, ap, ◌∙◌, arith}
+use Rattle.std.proofs.Common.{◌≡◌, ℕ, ◌<◌, Bool, true, false, ◌&&◌, eqb, ltb, leb, Some, None, Option, sym, refl, ap, ◌∙◌, arith}
 use Rattle.std.proofs.lemmas.Bool.Decides.{nat_tests}
+use Rattle.std.specs.Bool.{then_some}
+use Rattle.std.specs.Option.{option_and_then}
+use Rattle.std.proofs.lemmas.Option.{option_and_then_some}
 use Rattle.table.specs.Flow.{mapped}
-use Rattle.table.specs.Shapes.{only, scope_number, scope_of, format_number, format_of, binary_number, comparison_number}
+use Rattle.table.specs.Kinds.{constant_count, operates}
+use Rattle.table.specs.Numbers.{kind_of, scope_of, format_of, binary_of as operator_of, comparison_number, comparison_of}
+use Rattle.table.proofs.Cases.{either, unmapped, allowed}
+use Rattle.table.proofs.Numbers.{kind_back, scope_back, format_back, binary_back as operator_back, comparison_back}
 use Rattle.table.specs.declared.shape.Kind.{Kind}
 use Rattle.table.specs.declared.shape.Kind.TheVariants.{Int, Byte}
-use Rattle.table.specs.declared.shape.Scope.{Scope}
 use Rattle.table.specs.declared.shape.Scope.TheVariants.{Own, Main}
-use Rattle.table.specs.declared.shape.Format.{Format}
 use Rattle.table.specs.declared.shape.Format.TheVariants.{Integer, Byte as ByteText, Char}
 use Rattle.table.specs.declared.shape.Binary.{Binary}
 use Rattle.table.specs.declared.shape.Binary.TheVariants.{Add, Sub, Mul, Div, Rem, ByteAnd, ByteOr}
 use Rattle.table.specs.declared.shape.Comparison.{Comparison}
 use Rattle.table.specs.declared.shape.Comparison.TheVariants.{Equal, Unequal, Less, Greater, AtMost, AtLeast}
 use Rattle.code.specs.Fields.{op_of, aux_of, node_of, operand_of, packed}
-use Rattle.code.specs.Word.{kind_number, sense_number, op_for, aux_for, operand_for, word_of, sense_of, constant_of, operator_of, logic_of, binary_of, comparison_of, compare_of, bare_of, plain_of, ranged_of, instruction_from, instruction_of, OperatorFits, InstructionFits, ReadAgain, WrittenAgain}
+use Rattle.code.specs.Word.{sense_number, op_for, aux_for, operand_for, word_of, sense_of, constant_of, binary_of, compare_of, bare_of, plain_of, ranged_of, instruction_from, instruction_of, OperatorFits, InstructionFits, ReadAgain, WrittenAgain}
 use Rattle.code.specs.declared.instruction.Jump.TheVariants.{Else, Loop, Break, Continue}
 use Rattle.code.specs.declared.instruction.Instruction.{Instruction}
 use Rattle.code.specs.declared.instruction.Instruction.TheVariants.{Constant, Variable, Minus, ByteNot, Binary as OfTwo, Call, Shrink, Read, Compare, Holds, Assign, Perform, Jump as Goto, Exit, Return, Close, Write}
@@ -27,56 +31,21 @@ pub record Fields (k a o : ℕ) (i : Instruction) : Type 0 where
   pub operand : o ≡ operand_for i
   pub fits : InstructionFits i
 
--- a choice between two answers, by cases
-either : {A B : Type 0} (b : Bool) (x y : Option A) (z : A) →
-    (b ≡ true → x ≡ Some z → B) → (b ≡ false → y ≡ Some z → B) → cond b x y ≡ Some z → B
-either true x y z f g h = f refl h
-either false x y z f g h = g refl h
-
--- an answer that was changed
-unmapped : {A B C : Type 0} (f : A → B) (x : Option A) (z : B) → ((y : A) → x ≡ Some y → f y ≡ z → C) → mapped f x ≡ Some z → C
-unmapped f None z g h = absurd (grind arith)
-unmapped f (Some y) z g h = g y refl (grind arith)
-
-scope_back : (a : ℕ) (s : Scope) → scope_of a ≡ Some s → a ≡ scope_number s
-scope_back a s h = grind (arith, nat_tests)
-
-format_back : (a : ℕ) (q : Format) → format_of a ≡ Some q → a ≡ format_number q
-format_back a q h = grind (arith, nat_tests)
-
 sense_back : (a : ℕ) (s : Bool) → sense_of a ≡ Some s → a ≡ sense_number s
 sense_back a s h = grind (arith, nat_tests)
-
-comparison_back : (k : ℕ) (c : Comparison) → comparison_of k ≡ Some c → k ≡ comparison_number c
-comparison_back k c h = grind (arith, nat_tests)
-
-operator_back : (k : ℕ) (o : Binary) → operator_of k ≡ Some o → (k ≡ binary_number o) × ((q : Kind) → OperatorFits o q)
-operator_back k o =
-    either (eqb k 6) _ _ o (λ p h. let q : k ≡ 6 = grind (arith, nat_tests) in let e : Add ≡ o = grind arith in rw (← e, q) (refl, λ _. tt))
-    (λ _. either (eqb k 7) _ _ o (λ p h. let q : k ≡ 7 = grind (arith, nat_tests) in let e : Sub ≡ o = grind arith in rw (← e, q) (refl, λ _. tt))
-    (λ _. either (eqb k 8) _ _ o (λ p h. let q : k ≡ 8 = grind (arith, nat_tests) in let e : Mul ≡ o = grind arith in rw (← e, q) (refl, λ _. tt))
-    (λ _. either (eqb k 9) _ _ o (λ p h. let q : k ≡ 9 = grind (arith, nat_tests) in let e : Div ≡ o = grind arith in rw (← e, q) (refl, λ _. tt))
-    (λ _. either (eqb k 10) _ _ o (λ p h. let q : k ≡ 10 = grind (arith, nat_tests) in let e : Rem ≡ o = grind arith in rw (← e, q) (refl, λ _. tt))
-    (λ _ h. absurd (grind arith))))))
-
-logic_back : (k : ℕ) (o : Binary) → logic_of k ≡ Some o → (k ≡ binary_number o) × OperatorFits o Byte
-logic_back k o = either (eqb k 11) _ _ o (λ p h. let q : k ≡ 11 = grind (arith, nat_tests) in let e : ByteAnd ≡ o = grind arith in rw (← e, q) (refl, tt))
-    (λ _. either (eqb k 12) _ _ o (λ p h. let q : k ≡ 12 = grind (arith, nat_tests) in let e : ByteOr ≡ o = grind arith in rw (← e, q) (refl, tt)) (λ _ h. absurd (grind arith)))
 
 is : (k n : ℕ) → eqb k n ≡ true → k ≡ n
 is k n h = grind (arith, nat_tests)
 
+operator_fits : (o : Binary) (q : Kind) → operates o q ≡ true → OperatorFits o q
+operator_fits o q h = grind arith
+
 binary_back : (k a : ℕ) (i : Instruction) → binary_of k a ≡ Some i → Fields k a 0 i
-binary_back k a i =
-    either (ltb k 11) _ _ i
-    (λ _. either (eqb a 0) _ _ i
-    (λ z. unmapped (λ o. OfTwo o Int) (operator_of k) i (λ o f g. rw (← g) record { op = (operator_back k o f).0; aux = is a 0 z; operand = refl; fits = (operator_back k o f).1 Int }))
-    (λ _. either (eqb a 1) _ _ i
-    (λ z. unmapped (λ o. OfTwo o Byte) (operator_of k) i (λ o f g. rw (← g) record { op = (operator_back k o f).0; aux = is a 1 z; operand = refl; fits = (operator_back k o f).1 Byte }))
-    (λ _ h. absurd (grind arith))))
-    (λ _. either (eqb a 1) _ _ i
-    (λ z. unmapped (λ o. OfTwo o Byte) (logic_of k) i (λ o f g. rw (← g) record { op = (logic_back k o f).0; aux = is a 1 z; operand = refl; fits = (logic_back k o f).1 }))
-    (λ _ h. absurd (grind arith)))
+binary_back k a i h =
+    option_and_then_some (λ o. option_and_then (λ q. then_some (operates o q) (OfTwo o q)) (kind_of a)) (operator_of k) i h (λ o f g.
+    option_and_then_some (λ q. then_some (operates o q) (OfTwo o q)) (kind_of a) i g (λ q e t.
+    let p = allowed (operates o q) (OfTwo o q) i t in
+    rw (← p.1) record { op = operator_back k o f; aux = kind_back a q e; operand = refl; fits = operator_fits o q p.0 }))
 
 compare_back : (k a o : ℕ) (i : Instruction) → o < 4294967296 → compare_of k a o ≡ Some i → Fields k a o i
 compare_back k a o i l =
@@ -118,12 +87,14 @@ plain_back k o i l =
     (λ _. either (eqb o 0) _ _ i (λ z h. rw (is o 0 z) (bare_back k i h)) (λ _ h. absurd (grind arith))))))))
 
 constant_back : (a o : ℕ) (i : Instruction) → constant_of a o ≡ Some i → Fields 1 a o i
-constant_back a o i =
-    either (eqb a 0) _ _ i (λ z h. at_kind Int 32768 (is a 0 z) (λ l. l) h)
-    (λ _. either (eqb a 1) _ _ i (λ z h. at_kind Byte 256 (is a 1 z) (λ l. l) h) (λ _ h. absurd (grind arith)))
+constant_back a o i h =
+    option_and_then_some (λ k. then_some (ltb o (constant_count k)) (Constant k o)) (kind_of a) i h (λ k f g.
+    let p = allowed (ltb o (constant_count k)) (Constant k o) i g in
+    rw (← p.1) record { op = refl; aux = kind_back a k f; operand = refl; fits = constant_fits k p.0 })
   where
-    at_kind : (k : Kind) (n : ℕ) → a ≡ kind_number k → (o < n → InstructionFits (Constant k o)) → only (ltb o n) (Constant k o) ≡ Some i → Fields 1 a o i
-    at_kind k n q f h = let l : o < n = grind (arith, nat_tests) in let e : Constant k o ≡ i = grind (arith, nat_tests) in rw (← e) record { op = refl; aux = q; operand = refl; fits = f l }
+    constant_fits : (k : Kind) → ltb o (constant_count k) ≡ true → InstructionFits (Constant k o)
+    constant_fits Int l = grind (arith, nat_tests)
+    constant_fits Byte l = grind (arith, nat_tests)
 
 ranged_back : (k a o : ℕ) (i : Instruction) → o < 4294967296 → ranged_of k a o ≡ Some i → Fields k a o i
 ranged_back k a o i l =
@@ -159,8 +130,8 @@ written_again w (Some i) h =
     let e : packed (op_for i) (aux_for i) (node_of w) (operand_for i) ≡ packed (op_of w) (aux_of w) (node_of w) (operand_of w) = rw (f.op, f.aux, f.operand) refl in
     (f.fits, e ∙ repacked w)
 
-only-there : (b : Bool) (i : Instruction) → b ≡ true → only b i ≡ Some i
-only-there b i h = rw h
+then-there : (b : Bool) (i : Instruction) → b ≡ true → then_some b i ≡ Some i
+then-there b i h = rw h
 
 comparison_there : (c : Comparison) → comparison_of (comparison_number c) ≡ Some c
 comparison_there Equal = refl
@@ -181,8 +152,8 @@ compare-there AtLeast a t = refl
 
 -- the fields of an instruction are read as that instruction
 from_fields : (i : Instruction) → InstructionFits i → instruction_from (op_for i) (aux_for i) (operand_for i) ≡ Some i
-from_fields (Constant Int v) f = only-there (ltb v 32768) (Constant Int v) (grind (arith, nat_tests))
-from_fields (Constant Byte v) f = only-there (ltb v 256) (Constant Byte v) (grind (arith, nat_tests))
+from_fields (Constant Int v) f = then-there (ltb v 32768) (Constant Int v) (grind (arith, nat_tests))
+from_fields (Constant Byte v) f = then-there (ltb v 256) (Constant Byte v) (grind (arith, nat_tests))
 from_fields (Variable Own x) f = refl
 from_fields (Variable Main x) f = refl
 from_fields Minus f = refl

@@ -1,3 +1,5 @@
+pub mod Cases
+pub mod Numbers
 pub mod Sorts
 pub mod Slots
 pub mod Round

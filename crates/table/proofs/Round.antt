@@ -1,13 +1,18 @@
 -- A record and its node determine each other.
-use Rattle.std.proofs.Common.{◌≡◌, ℕ, ◌<◌, ◌≤◌, Bool, true, false, cond, ◌&&◌, eqb, ltb, leb, Some, None, Option, refl, ap, ◌∙◌, arith}
+use Rattle.std.proofs.Common.{◌≡◌, ℕ, ◌<◌, ◌≤◌, Bool, true, ◌&&◌, eqb, ltb, leb, Some, refl, ap, ◌∙◌, arith}
 use Rattle.std.proofs.lemmas.Bool.Decides.{nat_tests}
+use Rattle.std.specs.Bool.{then_some}
+use Rattle.std.proofs.lemmas.Option.{option_and_then_some}
 use Rattle.table.specs.Flow.{mapped}
-use Rattle.table.specs.Shapes.{node, scope_of, format_of, constant_of, operator_of, expression_of, test_of, condition_of, if_of, act_of, statement_of, block_of, only, shape_of, of_expression, of_condition, of_statement, node_of, scope_number, format_number, ExpressionFits, ShapeFits, Decodes}
+use Rattle.table.specs.Kinds.{constant_count}
+use Rattle.table.specs.Numbers.{kind_number, kind_of, scope_of, format_of, unary_of, binary_of, comparison_of, junction_of}
+use Rattle.table.specs.Shapes.{node, constant_of, operator_of, expression_of, joined_of, test_of, condition_of, if_of, act_of, statement_of, block_of, shape_of, of_expression, of_condition, of_statement, node_of, ExpressionFits, ShapeFits, Decodes}
+use Rattle.table.proofs.Cases.{either, unmapped, one_of}
+use Rattle.table.proofs.Numbers.{kind_back, scope_back, format_back, unary_back, binary_back, comparison_back, junction_back}
 use Rattle.table.specs.declared.record.Node.{Node}
+use Rattle.table.specs.declared.shape.Kind.{Kind}
 use Rattle.table.specs.declared.shape.Kind.TheVariants.{Int, Byte}
-use Rattle.table.specs.declared.shape.Scope.{Scope}
 use Rattle.table.specs.declared.shape.Scope.TheVariants.{Own, Main}
-use Rattle.table.specs.declared.shape.Format.{Format}
 use Rattle.table.specs.declared.shape.Format.TheVariants.{Integer, Byte as ByteText, Char}
 use Rattle.table.specs.declared.shape.Expression.{Expression}
 use Rattle.table.specs.declared.shape.Expression.TheVariants.{Constant, Variable, Unary as OfOne, Binary as OfTwo, Call, Read}
@@ -22,34 +27,33 @@ use Rattle.table.specs.declared.shape.Condition.TheVariants.{Compare, Not, Join,
 use Rattle.table.specs.declared.shape.Shape.{Shape}
 use Rattle.table.specs.declared.shape.Shape.TheVariants.{Expression as Value, Condition as Test, Statement as Act, Block}
 
--- a choice between two answers, by cases
-either : {A B : Type 0} (b : Bool) (x y : Option A) (z : A) →
-    (b ≡ true → x ≡ Some z → B) → (b ≡ false → y ≡ Some z → B) → cond b x y ≡ Some z → B
-either true x y z f g h = f refl h
-either false x y z f g h = g refl h
-
--- an answer that was changed
-unmapped : {A B C : Type 0} (f : A → B) (x : Option A) (z : B) → ((y : A) → x ≡ Some y → f y ≡ z → C) → mapped f x ≡ Some z → C
-unmapped f None z g h = absurd (grind arith)
-unmapped f (Some y) z g h = g y refl (grind arith)
-
 operator_back : (k : ℕ) (e : Expression) → operator_of k ≡ Some e → (node k 0 0 ≡ of_expression e) × ExpressionFits e
-operator_back k e h = grind (arith, nat_tests)
+operator_back k e =
+    one_of (mapped OfOne (unary_of k)) _ e
+    (unmapped OfOne (unary_of k) e (λ u f g. rw (← g, unary_back k u f) (refl, tt)))
+    (unmapped OfTwo (binary_of k) e (λ b f g. rw (← g, binary_back k b f) (refl, tt)))
+
+joined_back : (k : ℕ) (c : Condition) → joined_of k ≡ Some c → node k 0 0 ≡ of_condition c
+joined_back k c =
+    one_of (mapped Compare (comparison_of k)) _ c
+    (unmapped Compare (comparison_of k) c (λ d f g. rw (← g, comparison_back k d f) refl))
+    (unmapped Join (junction_of k) c (λ j f g. rw (← g, junction_back k j f) refl))
 
 test_back : (k : ℕ) (c : Condition) → test_of k ≡ Some c → node k 0 0 ≡ of_condition c
-test_back k c h = grind (arith, nat_tests)
+test_back k c =
+    either (eqb k 26) _ _ c (λ p h. grind (arith, nat_tests))
+    (λ _. either (eqb k 29) _ _ c (λ p h. grind (arith, nat_tests)) (λ _. joined_back k c))
 
 act_back : (k o : ℕ) (s : Statement) → act_of k o ≡ Some s → node k 0 o ≡ of_statement s
 act_back k o s h = grind (arith, nat_tests)
 
-scope_back : (a : ℕ) (s : Scope) → scope_of a ≡ Some s → a ≡ scope_number s
-scope_back a s h = grind (arith, nat_tests)
-
-format_back : (a : ℕ) (q : Format) → format_of a ≡ Some q → a ≡ format_number q
-format_back a q h = grind (arith, nat_tests)
-
 constant_back : (a o : ℕ) (e : Expression) → constant_of a o ≡ Some e → (node 1 a o ≡ of_expression e) × ExpressionFits e
-constant_back a o e h = grind (arith, nat_tests)
+constant_back a o e h =
+    option_and_then_some (λ k. then_some (ltb o (constant_count k)) (Constant k o)) (kind_of a) e h (λ k f g. rw (kind_back a k f) (at_kind k g))
+  where
+    at_kind : (k : Kind) → then_some (ltb o (constant_count k)) (Constant k o) ≡ Some e → (node 1 (kind_number k) o ≡ of_expression e) × ExpressionFits e
+    at_kind Int h = grind (arith, nat_tests)
+    at_kind Byte h = grind (arith, nat_tests)
 
 expression_back : (k a o : ℕ) (e : Expression) → expression_of k a o ≡ Some e → (node k a o ≡ of_expression e) × ExpressionFits e
 expression_back k a o e =
@@ -107,7 +111,7 @@ decoded n s =
     rw (← g) (ap (λ k. node k n.aux n.operand) q ∙ b.0, (b.1, b.2))))
     (λ _. unmapped Act _ s (λ e f g. let b = statement_back n.kind n.aux n.operand e f in rw (← g) (b, tt)))))
 
-constant-there : (b : Bool) (e : Expression) → b ≡ true → mapped Value (only b e) ≡ Some (Value e)
+constant-there : (b : Bool) (e : Expression) → b ≡ true → mapped Value (then_some b e) ≡ Some (Value e)
 constant-there b e h = rw h
 
 pub encoded : (s : Shape) → ShapeFits s → shape_of (node_of s) ≡ Some s
@@ -156,7 +160,7 @@ encoded (Act Return) f = refl
 encoded (Act (Write Integer)) f = refl
 encoded (Act (Write ByteText)) f = refl
 encoded (Act (Write Char)) f = refl
-encoded (Block n) f = let p : (ltb 0 n && leb n 8192) ≡ true = grind (arith, nat_tests) in ap (λ b. mapped Block (only b n)) p
+encoded (Block n) f = let p : (ltb 0 n && leb n 8192) ≡ true = grind (arith, nat_tests) in ap (λ b. mapped Block (then_some b n)) p
 
 pub decodes : (n : Node) → Decodes n (shape_of n)
 decodes n s = (decoded n s, λ p. ap shape_of p.0 ∙ encoded s p.1)

@@ -2,12 +2,15 @@
 #![tactic(auto)]
 
 mod decode;
+mod kind;
+mod number;
 mod read;
 mod record;
 mod shape;
 mod sort;
 mod view;
 
+pub use number::{Unlisted, result_number, result_of};
 pub use read::read_layout;
 pub use record::{Function, Header, Node, TableFault};
 pub use shape::{

@@ -2,9 +2,10 @@
 ghost use Rattle.std.specs.Prelude.{◌≡◌};
 ghost use Rattle.std.specs.List.{slice_get};
 ghost use Rattle.table.specs.Faults.{told_of_table};
-ghost use Rattle.table.specs.Fields.{header_of, result_of, record_fits, function_from, record_holds, first_broken, layout_of, kind_bit, variables_of};
+ghost use Rattle.table.specs.Fields.{header_of, record_fits, function_from, record_holds, first_broken, layout_of, kind_bit, variables_of};
 ghost use Rattle.table.specs.View.{view, node_of, function_of};
 
+use crate::number::result_of;
 use crate::record::{Function, Header, Node, TableFault};
 use crate::shape::Kind;
 use crate::view::Table;
@@ -30,18 +31,6 @@ fn header(bytes: &[u8]) -> Result<Header, TableFault>
     Ok(Header { functions, nodes })
 }
 
-// A result field: none if it is not listed.
-fn result_of(field: u8) -> Option<Option<Kind>>
-    ensures { result ≡ result_of field }
-{
-    match field {
-        0 => Some(None),
-        1 => Some(Some(Kind::Int)),
-        2 => Some(Some(Kind::Byte)),
-        _ => None,
-    }
-}
-
 // Whether the limits of a function record hold; the spare bits and the kinds past the last variable are 0.
 fn record_fits(parameters: u8, variables: u8, spare: u8, kinds: u32) -> bool
     ensures { result ≡ record_fits parameters variables spare kinds }
@@ -59,7 +48,7 @@ fn function_from(res: u8, parameters: u8, variables: u8, spare: u8, kinds: u32) 
     if !record_fits(parameters, variables, spare, kinds) {
         return None;
     }
-    let res = result_of(res)?;
+    let res = result_of(res).ok()?;
     Some(Function {
         result: res,
         parameters,
