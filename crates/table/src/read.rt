@@ -45,12 +45,9 @@ fn record_fits(parameters: u8, variables: u8, spare: u8, kinds: u32) -> bool
 fn function_from(res: u8, parameters: u8, variables: u8, spare: u8, kinds: u32) -> Option<Function>
     ensures { result ≡ function_from res parameters variables spare kinds }
 {
-    if !record_fits(parameters, variables, spare, kinds) {
-        return None;
-    }
-    let res = result_of(res).ok()?;
-    Some(Function {
-        result: res,
+    let result = result_of(res).ok()?;
+    record_fits(parameters, variables, spare, kinds).then_some(Function {
+        result,
         parameters,
         variables,
         kinds,
@@ -61,10 +58,7 @@ fn function_from(res: u8, parameters: u8, variables: u8, spare: u8, kinds: u32) 
 fn record_holds(f: usize, found: Option<Function>) -> bool
     ensures { result ≡ record_holds f found }
 {
-    match found {
-        None => false,
-        Some(found) => f != 0 || (found.result.is_none() && found.parameters == 0),
-    }
+    found.is_some_and(|record| f != 0 || (record.result.is_none() && record.parameters == 0))
 }
 
 impl Table<'_> {
@@ -72,24 +66,14 @@ impl Table<'_> {
     pub fn function(&self, f: usize) -> Option<Function>
         ensures { result ≡ function_of (view self.now) f }
     {
-        if f >= self.functions {
-            return None;
-        }
-        let place = 3 + 6 * f;
-        let first = self.bytes[place];
-        let second = self.bytes[place + 1];
-        let kinds = u32::from_be_bytes([
-            self.bytes[place + 2],
-            self.bytes[place + 3],
-            self.bytes[place + 4],
-            self.bytes[place + 5],
-        ]);
+        let (records, _) = self.bytes[3..3 + 6 * self.functions].as_chunks::<6>();
+        let [first, second, kinds0, kinds1, kinds2, kinds3] = *records.get(f)?;
         function_from(
             first / 64,
             first / 4 % 16,
             first % 4 * 16 + second / 16,
             second % 16,
-            kinds,
+            u32::from_be_bytes([kinds0, kinds1, kinds2, kinds3]),
         )
     }
 
@@ -97,15 +81,12 @@ impl Table<'_> {
     pub fn node(&self, at: usize) -> Option<Node>
         ensures { result ≡ node_of (view self.now) at }
     {
-        if at >= self.nodes {
-            return None;
-        }
-        let place = 3 + 6 * self.functions + 3 * at;
-        let first = self.bytes[place];
+        let (nodes, _) = self.bytes[3 + 6 * self.functions..].as_chunks::<3>();
+        let [first, high, low] = *nodes.get(at)?;
         Some(Node {
             kind: first / 4,
             aux: first % 4,
-            operand: u16::from_be_bytes([self.bytes[place + 1], self.bytes[place + 2]]),
+            operand: u16::from_be_bytes([high, low]),
         })
     }
 }
@@ -114,12 +95,7 @@ impl Table<'_> {
 fn first_broken(t: &Table) -> Option<usize>
     ensures { result ≡ first_broken t.now.bytes.now t.now.functions 0 }
 {
-    for f in 0..t.functions {
-        if !record_holds(f, t.function(f)) {
-            return Some(f);
-        }
-    }
-    None
+    (0..t.functions).find(|f| !record_holds(*f, t.function(*f)))
 }
 
 // Takes a table's header and function records apart, and answers the two counts. Where a rule is broken it
@@ -155,10 +131,7 @@ impl Function {
     pub fn variable(&self, slot: u16) -> Option<Kind>
         ensures { result ≡ slice_get (variables_of self.now) slot }
     {
-        if slot >= u16::from(self.variables) {
-            return None;
-        }
-        Some(kind_bit(self.kinds, slot))
+        (slot < u16::from(self.variables)).then_some(kind_bit(self.kinds, slot))
     }
 }
 
