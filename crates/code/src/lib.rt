@@ -3,6 +3,7 @@
 
 mod entry;
 mod instruction;
+mod name;
 mod read;
 mod write;
 

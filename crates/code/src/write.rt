@@ -1,19 +1,8 @@
 // Writing words.
 ghost use Rattle.std.specs.Prelude.{◌≡◌, ◌<◌};
-ghost use Rattle.code.specs.Word.{jump_number, op_for, aux_for, operand_for, word_of, ReadAgain};
+ghost use Rattle.code.specs.Word.{op_for, aux_for, operand_for, word_of, ReadAgain};
 
-use crate::instruction::{Instruction, Jump};
-
-fn jump_number(jump: Jump) -> u8
-    ensures { result ≡ jump_number jump }
-{
-    match jump {
-        Jump::Else => 35,
-        Jump::Loop => 36,
-        Jump::Break => 37,
-        Jump::Continue => 38,
-    }
-}
+use crate::instruction::Instruction;
 
 fn op_for(instruction: Instruction) -> u8
     ensures { result ≡ op_for instruction }
@@ -31,7 +20,7 @@ fn op_for(instruction: Instruction) -> u8
         Instruction::Holds(_, _) => 29,
         Instruction::Assign(_, _) => 33,
         Instruction::Perform(_) => 34,
-        Instruction::Jump(jump, _) => jump_number(jump),
+        Instruction::Jump(jump, _) => jump as u8,
         Instruction::Exit => 39,
         Instruction::Return => 40,
         Instruction::Close => 41,
