@@ -5,7 +5,8 @@ ghost use Rattle.code.specs.Entries.{entry_word, counts_fit, entry_from, entry_o
 use crate::instruction::Entry;
 use table::{result_number, result_of};
 
-// The bits above the address: result (2), parameters (4), variables (6) and four that are 0.
+// Whether an entry's numbers are in range and its four spare bits 0. The limits are those of a function's record, whose
+// check in `table` takes the kinds too: an entry has none, so one function for both would be no plainer.
 fn entry_fits(parameters: u8, variables: u8, spare: u8) -> bool
     ensures { result ≡ counts_fit parameters variables spare }
 {

@@ -128,10 +128,10 @@ impl Node {
         ensures exactly { Decodes self.now result }
     {
         match self.kind {
-            0..20 => Some(Shape::Expression(expression_of(self.kind, self.aux, self.operand)?)),
-            20..30 => Some(Shape::Condition(condition_of(self.kind, self.aux, self.operand)?)),
-            41 => Some(Shape::Block(block_of(self.aux, self.operand)?)),
-            _ => Some(Shape::Statement(statement_of(self.kind, self.aux, self.operand)?)),
+            0..20 => expression_of(self.kind, self.aux, self.operand).map(Shape::Expression),
+            20..30 => condition_of(self.kind, self.aux, self.operand).map(Shape::Condition),
+            41 => block_of(self.aux, self.operand).map(Shape::Block),
+            _ => statement_of(self.kind, self.aux, self.operand).map(Shape::Statement),
         }
     }
 }
