@@ -1,3 +1,4 @@
 pub mod Fields
 pub mod Word
 pub mod Entries
+pub mod Names

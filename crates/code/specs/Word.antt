@@ -1,24 +1,21 @@
 -- The word of each instruction, and the instruction of each word.
 use Rattle.std.specs.Prelude.{◌≡◌, ℕ, ◌+◌, ◌*◌, ◌<◌, Bool, true, false, cond, ◌&&◌, Some, None, Option, ◌==◌, nat_le, nat_lt}
+use Rattle.std.specs.Bool.{then_some}
+use Rattle.std.specs.Option.{option_and_then}
 use Rattle.table.specs.Flow.{mapped}
-use Rattle.table.specs.Shapes.{only, scope_number, scope_of, format_number, format_of, binary_number, comparison_number}
+use Rattle.table.specs.Kinds.{constant_count, operates}
+use Rattle.table.specs.Numbers.{kind_number, kind_of, scope_number, scope_of, format_number, format_of, binary_number, binary_of as operator_of, comparison_number, comparison_of}
 use Rattle.table.specs.declared.shape.Kind.{Kind}
 use Rattle.table.specs.declared.shape.Kind.TheVariants.{Int, Byte}
 use Rattle.table.specs.declared.shape.Binary.{Binary}
 use Rattle.table.specs.declared.shape.Binary.TheVariants.{Add, Sub, Mul, Div, Rem, ByteAnd, ByteOr}
-use Rattle.table.specs.declared.shape.Comparison.{Comparison}
-use Rattle.table.specs.declared.shape.Comparison.TheVariants.{Equal, Unequal, Less, Greater, AtMost, AtLeast}
 use Rattle.code.specs.Fields.{op_of, aux_of, node_of, operand_of, packed}
 use Rattle.code.specs.declared.instruction.Jump.{Jump}
 use Rattle.code.specs.declared.instruction.Jump.TheVariants.{Else, Loop, Break, Continue}
 use Rattle.code.specs.declared.instruction.Instruction.{Instruction}
 use Rattle.code.specs.declared.instruction.Instruction.TheVariants.{Constant, Variable, Minus, ByteNot, Binary as OfTwo, Call, Shrink, Read, Compare, Holds, Assign, Perform, Jump as Goto, Exit, Return, Close, Write}
 
--- The numbers of the kinds, of the sense of a jump (1: made when the condition holds) and of the jumps.
-abbrev pub kind_number : Kind → ℕ
-kind_number Int = 0
-kind_number Byte = 1
-
+-- The numbers of the sense of a jump (1: made when the condition holds) and of the jumps.
 abbrev pub sense_number : Bool → ℕ
 sense_number false = 0
 sense_number true = 1
@@ -98,34 +95,11 @@ abbrev pub sense_of : ℕ → Option Bool
 sense_of a = cond (a == 0) (Some false) (cond (a == 1) (Some true) None)
 
 abbrev pub constant_of : ℕ → ℕ → Option Instruction
-constant_of a o =
-    cond (a == 0) (only (nat_lt o 32768) (Constant Int o)) (cond (a == 1) (only (nat_lt o 256) (Constant Byte o)) None)
+constant_of a o = option_and_then (λ k. then_some (nat_lt o (constant_count k)) (Constant k o)) (kind_of a)
 
 -- arithmetic on either kind; `&` and the or-sign on bytes only
-abbrev pub operator_of : ℕ → Option Binary
-operator_of k =
-    cond (k == 6) (Some Add)
-    (cond (k == 7) (Some Sub)
-    (cond (k == 8) (Some Mul)
-    (cond (k == 9) (Some Div)
-    (cond (k == 10) (Some Rem) None))))
-
-abbrev pub logic_of : ℕ → Option Binary
-logic_of k = cond (k == 11) (Some ByteAnd) (cond (k == 12) (Some ByteOr) None)
-
 abbrev pub binary_of : ℕ → ℕ → Option Instruction
-binary_of k a =
-    cond (nat_lt k 11) (cond (a == 0) (mapped (λ o. OfTwo o Int) (operator_of k)) (cond (a == 1) (mapped (λ o. OfTwo o Byte) (operator_of k)) None))
-    (cond (a == 1) (mapped (λ o. OfTwo o Byte) (logic_of k)) None)
-
-abbrev pub comparison_of : ℕ → Option Comparison
-comparison_of k =
-    cond (k == 20) (Some Equal)
-    (cond (k == 21) (Some Unequal)
-    (cond (k == 22) (Some Less)
-    (cond (k == 23) (Some Greater)
-    (cond (k == 24) (Some AtMost)
-    (cond (k == 25) (Some AtLeast) None)))))
+binary_of k a = option_and_then (λ o. option_and_then (λ q. then_some (operates o q) (OfTwo o q)) (kind_of a)) (operator_of k)
 
 abbrev pub compare_of : ℕ → ℕ → ℕ → Option Instruction
 compare_of k a o =

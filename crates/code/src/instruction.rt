@@ -1,14 +1,14 @@
 // What a word can say.
 use table::{Binary, Comparison, Format, Kind, Scope};
 
-// The statements whose words only jump.
+// The statements whose words only jump, with their ops.
 #[derive(Clone, Copy)]
 pub enum Jump {
     // over the else block, behind the first block of an if
-    Else,
-    Loop,
-    Break,
-    Continue,
+    Else = 35,
+    Loop = 36,
+    Break = 37,
+    Continue = 38,
 }
 
 // What one word has the machine do. A number is a constant's value, a slot, a function or the address of a jump.

@@ -3,10 +3,11 @@
 
 mod entry;
 mod instruction;
+mod name;
 mod read;
 mod write;
 
 pub use entry::{decode_entry, encode_entry};
 pub use instruction::{Entry, Instruction, Jump};
-pub use read::{decode, node_of};
+pub use read::{aux_of, decode, node_of, operand_of};
 pub use write::encode;

@@ -1,45 +1,51 @@
 // Reads a tree table from standard input and tells whether it passes, or the first rule broken. With the argument
-// `code` it lists the words of a table that passes, one to a line: address, name, aux, node and operand.
+// `code` it lists the words of a table that passes, one to a line: address, name, aux, node and operand. Its functions
+// have no contracts, since none can say what a process is given and what a terminal takes.
 #![tactic(auto)]
 
-mod name;
-
 use checker::Program;
-use code::{decode, node_of};
-use name::name_of;
+use code::{aux_of, decode, node_of, operand_of};
 use std::env;
 use std::io::Read;
 use translate::translate;
 
+// A refusal's number and place.
+fn refuse(rt: &HostRuntime, told: (u8, usize)) -> anyhow::Result<()> {
+    let (number, place) = told;
+    println!(rt; "refused {number} {place}")?;
+    Ok(())
+}
+
+// One word. Where it says no instruction, it is the entry of a function.
+fn list_word(rt: &HostRuntime, address: usize, word: u64) -> anyhow::Result<()> {
+    let aux = aux_of(word);
+    let node = node_of(word);
+    let operand = operand_of(word);
+    match decode(word) {
+        Some(instruction) => println!(rt; "{address} {instruction} {aux} {node} {operand}")?,
+        None => println!(rt; "{address} entry {aux} {node} {operand}")?,
+    }
+    Ok(())
+}
+
 // The words of the program that is held.
 fn list(rt: &HostRuntime, program: &Program) -> anyhow::Result<()> {
     let mut code = [0; 8224];
-    let words = match translate(program, &mut code) {
-        Ok(words) => words,
-        Err(fault) => {
-            let (number, place) = fault.told();
-            println!(rt; "refused {number} {place}")?;
-            return Ok(());
+    match translate(program, &mut code) {
+        Ok(words) => {
+            for (address, word) in code.iter().take(words).enumerate() {
+                list_word(rt, address, *word)?;
+            }
+            Ok(())
         }
-    };
-    for (address, word) in code.iter().take(words).enumerate() {
-        let name = name_of(decode(*word));
-        let aux = *word / 281474976710656 % 256;
-        let node = node_of(*word);
-        let operand = *word % 4294967296;
-        println!(rt; "{address} {name} {aux} {node} {operand}")?;
+        Err(fault) => refuse(rt, fault.told()),
     }
-    Ok(())
 }
 
 // Whether the first argument is `code`.
 fn asks_for_code(rt: &HostRuntime) -> anyhow::Result<bool> {
     let mut args = env::args(rt)?;
-    let _ = args.next();
-    match args.next() {
-        None => Ok(false),
-        Some(word) => Ok(word.as_str() == "code"),
-    }
+    Ok(args.nth(1).is_some_and(|word| word.as_str() == "code"))
 }
 
 fn main(rt: HostRuntime) -> anyhow::Result<()> {
@@ -47,17 +53,11 @@ fn main(rt: HostRuntime) -> anyhow::Result<()> {
     rt.stdin().read_to_end(&mut bytes)?;
     let mut program = Program::new();
     match program.replace(bytes.as_slice()) {
+        Err(fault) => refuse(&rt, fault.told()),
+        Ok(_) if asks_for_code(&rt)? => list(&rt, &program),
         Ok(_) => {
-            if asks_for_code(&rt)? {
-                list(&rt, &program)?;
-            } else {
-                println!(rt; "passed")?;
-            }
-        }
-        Err(fault) => {
-            let (number, place) = fault.told();
-            println!(rt; "refused {number} {place}")?;
+            println!(rt; "passed")?;
+            Ok(())
         }
     }
-    Ok(())
 }

@@ -1,3 +1,5 @@
+pub mod Cases
+pub mod Chunks
 pub mod Sorts
 pub mod Slots
 pub mod Round

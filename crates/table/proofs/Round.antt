@@ -1,14 +1,10 @@
 -- A record and its node determine each other.
-use Rattle.std.proofs.Common.{◌≡◌, ℕ, ◌<◌, ◌≤◌, Bool, true, false, cond, ◌&&◌, eqb, ltb, leb, Some, None, Option, refl, ap, ◌∙◌, arith}
+use Rattle.std.proofs.Common.{◌≡◌, ℕ, ◌<◌, ◌≤◌, eqb, ltb, Some, refl, ap, ◌∙◌, arith}
 use Rattle.std.proofs.lemmas.Bool.Decides.{nat_tests}
-use Rattle.table.specs.Flow.{mapped}
-use Rattle.table.specs.Shapes.{node, scope_of, format_of, constant_of, operator_of, expression_of, test_of, condition_of, if_of, act_of, statement_of, block_of, only, shape_of, of_expression, of_condition, of_statement, node_of, scope_number, format_number, ExpressionFits, ShapeFits, Decodes}
+use Rattle.table.specs.Shapes.{node, expression_of, condition_of, statement_of, block_of, shape_of, of_expression, of_condition, of_statement, node_of, ExpressionFits, ShapeFits, Decodes}
+use Rattle.table.proofs.Cases.{either, unmapped}
 use Rattle.table.specs.declared.record.Node.{Node}
 use Rattle.table.specs.declared.shape.Kind.TheVariants.{Int, Byte}
-use Rattle.table.specs.declared.shape.Scope.{Scope}
-use Rattle.table.specs.declared.shape.Scope.TheVariants.{Own, Main}
-use Rattle.table.specs.declared.shape.Format.{Format}
-use Rattle.table.specs.declared.shape.Format.TheVariants.{Integer, Byte as ByteText, Char}
 use Rattle.table.specs.declared.shape.Expression.{Expression}
 use Rattle.table.specs.declared.shape.Expression.TheVariants.{Constant, Variable, Unary as OfOne, Binary as OfTwo, Call, Read}
 use Rattle.table.specs.declared.shape.Condition.{Condition}
@@ -22,73 +18,14 @@ use Rattle.table.specs.declared.shape.Condition.TheVariants.{Compare, Not, Join,
 use Rattle.table.specs.declared.shape.Shape.{Shape}
 use Rattle.table.specs.declared.shape.Shape.TheVariants.{Expression as Value, Condition as Test, Statement as Act, Block}
 
--- a choice between two answers, by cases
-either : {A B : Type 0} (b : Bool) (x y : Option A) (z : A) →
-    (b ≡ true → x ≡ Some z → B) → (b ≡ false → y ≡ Some z → B) → cond b x y ≡ Some z → B
-either true x y z f g h = f refl h
-either false x y z f g h = g refl h
-
--- an answer that was changed
-unmapped : {A B C : Type 0} (f : A → B) (x : Option A) (z : B) → ((y : A) → x ≡ Some y → f y ≡ z → C) → mapped f x ≡ Some z → C
-unmapped f None z g h = absurd (grind arith)
-unmapped f (Some y) z g h = g y refl (grind arith)
-
-operator_back : (k : ℕ) (e : Expression) → operator_of k ≡ Some e → (node k 0 0 ≡ of_expression e) × ExpressionFits e
-operator_back k e h = grind (arith, nat_tests)
-
-test_back : (k : ℕ) (c : Condition) → test_of k ≡ Some c → node k 0 0 ≡ of_condition c
-test_back k c h = grind (arith, nat_tests)
-
-act_back : (k o : ℕ) (s : Statement) → act_of k o ≡ Some s → node k 0 o ≡ of_statement s
-act_back k o s h = grind (arith, nat_tests)
-
-scope_back : (a : ℕ) (s : Scope) → scope_of a ≡ Some s → a ≡ scope_number s
-scope_back a s h = grind (arith, nat_tests)
-
-format_back : (a : ℕ) (q : Format) → format_of a ≡ Some q → a ≡ format_number q
-format_back a q h = grind (arith, nat_tests)
-
-constant_back : (a o : ℕ) (e : Expression) → constant_of a o ≡ Some e → (node 1 a o ≡ of_expression e) × ExpressionFits e
-constant_back a o e h = grind (arith, nat_tests)
-
 expression_back : (k a o : ℕ) (e : Expression) → expression_of k a o ≡ Some e → (node k a o ≡ of_expression e) × ExpressionFits e
-expression_back k a o e =
-    either (eqb k 1) _ _ e (λ p h. let q : k ≡ 1 = grind (arith, nat_tests) in rw q (constant_back a o e h))
-    (λ _. either (eqb k 2) _ _ e
-    (λ p. let q : k ≡ 2 = grind (arith, nat_tests) in
-    unmapped (λ s. Variable s o) (scope_of a) e (λ s f g. rw (← g, q, scope_back a s f) (refl, tt)))
-    (λ _. either (eqb k 13) _ _ e (λ p h. let q : k ≡ 13 = grind (arith, nat_tests) in rw q (grind (arith, nat_tests)))
-    (λ _. either (eqb k 16) _ _ e
-    (λ p. let q : k ≡ 16 = grind (arith, nat_tests) in
-    either (eqb o 0) _ _ e
-    (λ z. let y : o ≡ 0 = grind (arith, nat_tests) in
-    unmapped Read (format_of a) e (λ s f g. rw (← g, q, y, format_back a s f) (refl, tt))) (λ _ h. absurd (grind arith)))
-    (λ _. either (eqb a 0 && eqb o 0) _ _ e
-    (λ p h. let q : (a ≡ 0) × (o ≡ 0) = grind (arith, nat_tests) in rw (q.0, q.1) (operator_back k e h)) (λ _ h. absurd (grind arith))))))
+expression_back k a o e h = grind (arith, nat_tests)
 
 condition_back : (k a o : ℕ) (c : Condition) → condition_of k a o ≡ Some c → node k a o ≡ of_condition c
-condition_back k a o c =
-    either (eqb a 0 && eqb o 0) _ _ c
-    (λ p h. let q : (a ≡ 0) × (o ≡ 0) = grind (arith, nat_tests) in rw (q.0, q.1) (test_back k c h)) (λ _ h. absurd (grind arith))
+condition_back k a o c h = grind (arith, nat_tests)
 
 statement_back : (k a o : ℕ) (s : Statement) → statement_of k a o ≡ Some s → node k a o ≡ of_statement s
-statement_back k a o s =
-    either (eqb k 33) _ _ s
-    (λ p. let q : k ≡ 33 = grind (arith, nat_tests) in
-    unmapped (λ x. Assign x o) (scope_of a) s (λ x f g. rw (← g, q, scope_back a x f) refl))
-    (λ _. either (eqb k 35) _ _ s
-    (λ p. let q : k ≡ 35 = grind (arith, nat_tests) in
-    either (eqb o 0) _ _ s (λ z h. let y : o ≡ 0 = grind (arith, nat_tests) in rw (q, y) (if_back a s h)) (λ _ h. absurd (grind arith)))
-    (λ _. either (eqb k 42) _ _ s
-    (λ p. let q : k ≡ 42 = grind (arith, nat_tests) in
-    either (eqb o 0) _ _ s
-    (λ z. let y : o ≡ 0 = grind (arith, nat_tests) in
-    unmapped Write (format_of a) s (λ x f g. rw (← g, q, y, format_back a x f) refl)) (λ _ h. absurd (grind arith)))
-    (λ _. either (eqb a 0) _ _ s
-    (λ p h. let q : a ≡ 0 = grind (arith, nat_tests) in rw q (act_back k o s h)) (λ _ h. absurd (grind arith)))))
-  where
-    if_back : (a : ℕ) (s : Statement) → if_of a ≡ Some s → node 35 a 0 ≡ of_statement s
-    if_back a s h = grind (arith, nat_tests)
+statement_back k a o s h = grind (arith, nat_tests)
 
 block_back : (a o m : ℕ) → block_of a o ≡ Some m → (node 41 a o ≡ node 41 0 m) × (0 < m) × (m ≤ 8192)
 block_back a o m h = grind (arith, nat_tests)
@@ -107,15 +44,11 @@ decoded n s =
     rw (← g) (ap (λ k. node k n.aux n.operand) q ∙ b.0, (b.1, b.2))))
     (λ _. unmapped Act _ s (λ e f g. let b = statement_back n.kind n.aux n.operand e f in rw (← g) (b, tt)))))
 
-constant-there : (b : Bool) (e : Expression) → b ≡ true → mapped Value (only b e) ≡ Some (Value e)
-constant-there b e h = rw h
-
 pub encoded : (s : Shape) → ShapeFits s → shape_of (node_of s) ≡ Some s
 unfolding shape_of
-encoded (Value (Constant Int n)) f = constant-there (ltb n 32768) (Constant Int n) (grind (arith, nat_tests))
-encoded (Value (Constant Byte n)) f = constant-there (ltb n 256) (Constant Byte n) (grind (arith, nat_tests))
-encoded (Value (Variable Own x)) f = refl
-encoded (Value (Variable Main x)) f = refl
+encoded (Value (Constant Int n)) f = grind (arith, nat_tests)
+encoded (Value (Constant Byte n)) f = grind (arith, nat_tests)
+encoded (Value (Variable s x)) f = grind (arith, nat_tests)
 encoded (Value (OfOne Plus)) f = refl
 encoded (Value (OfOne Minus)) f = refl
 encoded (Value (OfOne ByteNot)) f = refl
@@ -129,9 +62,7 @@ encoded (Value (OfTwo Rem)) f = refl
 encoded (Value (OfTwo ByteAnd)) f = refl
 encoded (Value (OfTwo ByteOr)) f = refl
 encoded (Value (Call g)) f = refl
-encoded (Value (Read Integer)) f = refl
-encoded (Value (Read ByteText)) f = refl
-encoded (Value (Read Char)) f = refl
+encoded (Value (Read q)) f = grind (arith, nat_tests)
 encoded (Test (Compare Equal)) f = refl
 encoded (Test (Compare Unequal)) f = refl
 encoded (Test (Compare Less)) f = refl
@@ -143,8 +74,7 @@ encoded (Test (Join And)) f = refl
 encoded (Test (Join Or)) f = refl
 encoded (Test Holds) f = refl
 encoded (Act Skip) f = refl
-encoded (Act (Assign Own x)) f = refl
-encoded (Act (Assign Main x)) f = refl
+encoded (Act (Assign s x)) f = grind (arith, nat_tests)
 encoded (Act (Perform g)) f = refl
 encoded (Act If) f = refl
 encoded (Act IfElse) f = refl
@@ -153,10 +83,8 @@ encoded (Act (Break m)) f = refl
 encoded (Act (Continue m)) f = refl
 encoded (Act Exit) f = refl
 encoded (Act Return) f = refl
-encoded (Act (Write Integer)) f = refl
-encoded (Act (Write ByteText)) f = refl
-encoded (Act (Write Char)) f = refl
-encoded (Block n) f = let p : (ltb 0 n && leb n 8192) ≡ true = grind (arith, nat_tests) in ap (λ b. mapped Block (only b n)) p
+encoded (Act (Write q)) f = grind (arith, nat_tests)
+encoded (Block n) f = grind (arith, nat_tests)
 
 pub decodes : (n : Node) → Decodes n (shape_of n)
 decodes n s = (decoded n s, λ p. ap shape_of p.0 ∙ encoded s p.1)

@@ -2,6 +2,8 @@
 use Rattle.std.specs.Prelude.{ℕ, zero, suc, ◌+◌, ◌-◌, ◌*◌, ◌/◌, ◌%◌, ◌^◌, Bool, true, false, cond, ◌&&◌, List, map, length, Some, None, Ok, Err, Option, Result, ◌==◌, nat_le, nat_lt, slice_index}
 use Rattle.std.specs.List.{range_with_len}
 use Rattle.table.specs.Flow.{onward}
+-- result fields
+pub use Rattle.table.specs.Numbers.{result_of}
 use Rattle.table.specs.declared.record.Header.{Header}
 use Rattle.table.specs.declared.record.Function.{Function}
 use Rattle.table.specs.declared.record.Node.{Node}
@@ -58,10 +60,6 @@ spare_field bs p = byte_at bs (p + 1) % 16
 
 abbrev pub kinds_field : List ℕ → ℕ → ℕ
 kinds_field bs p = byte_at bs (p + 2) * 2 ^ 24 + byte_at bs (p + 3) * 2 ^ 16 + byte_at bs (p + 4) * 2 ^ 8 + byte_at bs (p + 5)
-
--- 0 for none, 1 for int, 2 for byte
-abbrev pub result_of : ℕ → Option (Option Kind)
-result_of r = cond (r == 0) (Some None) (cond (r == 1) (Some (Some Int)) (cond (r == 2) (Some (Some Byte)) None))
 
 -- at most 8 parameters, at most 32 variables, the parameters among them; the spare bits and the kinds past the last variable are 0
 abbrev pub record_fits : ℕ → ℕ → ℕ → ℕ → Bool

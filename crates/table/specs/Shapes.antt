@@ -1,21 +1,13 @@
 -- What a node record is, and the record of each node.
-use Rattle.std.specs.Prelude.{◌≡◌, ℕ, ◌<◌, ◌≤◌, Bool, true, false, cond, ◌&&◌, Some, None, Option, ◌==◌, nat_le, nat_lt}
+use Rattle.std.specs.Prelude.{◌≡◌, ℕ, ◌<◌, ◌≤◌, cond, ◌&&◌, Some, None, Option, ◌==◌, nat_le, nat_lt}
+use Rattle.std.specs.Bool.{then_some}
+use Rattle.std.specs.Option.{option_or, option_and_then}
 use Rattle.table.specs.Flow.{mapped}
+use Rattle.table.specs.Kinds.{constant_count}
+use Rattle.table.specs.Numbers.{kind_of, scope_number, format_number, unary_number, binary_number, comparison_number, junction_number, scope_of, format_of, unary_of, binary_of, comparison_of, junction_of}
 use Rattle.table.specs.declared.record.Node.{Node}
 use Rattle.table.specs.declared.shape.Kind.{Kind}
 use Rattle.table.specs.declared.shape.Kind.TheVariants.{Int, Byte}
-use Rattle.table.specs.declared.shape.Scope.{Scope}
-use Rattle.table.specs.declared.shape.Scope.TheVariants.{Own, Main}
-use Rattle.table.specs.declared.shape.Format.{Format}
-use Rattle.table.specs.declared.shape.Format.TheVariants.{Integer, Byte as ByteText, Char}
-use Rattle.table.specs.declared.shape.Unary.{Unary}
-use Rattle.table.specs.declared.shape.Unary.TheVariants.{Plus, Minus, ByteNot, Extend, Shrink}
-use Rattle.table.specs.declared.shape.Binary.{Binary}
-use Rattle.table.specs.declared.shape.Binary.TheVariants.{Add, Sub, Mul, Div, Rem, ByteAnd, ByteOr}
-use Rattle.table.specs.declared.shape.Comparison.{Comparison}
-use Rattle.table.specs.declared.shape.Comparison.TheVariants.{Equal, Unequal, Less, Greater, AtMost, AtLeast}
-use Rattle.table.specs.declared.shape.Junction.{Junction}
-use Rattle.table.specs.declared.shape.Junction.TheVariants.{And, Or}
 use Rattle.table.specs.declared.shape.Expression.{Expression}
 use Rattle.table.specs.declared.shape.Expression.TheVariants.{Constant, Variable, Unary as OfOne, Binary as OfTwo, Call, Read}
 use Rattle.table.specs.declared.shape.Condition.{Condition}
@@ -24,44 +16,6 @@ use Rattle.table.specs.declared.shape.Statement.{Statement}
 use Rattle.table.specs.declared.shape.Statement.TheVariants.{Skip, Assign, Perform, If, IfElse, Loop, Break, Continue, Exit, Return, Write}
 use Rattle.table.specs.declared.shape.Shape.{Shape}
 use Rattle.table.specs.declared.shape.Shape.TheVariants.{Expression as Value, Condition as Test, Statement as Act, Block}
-
--- The numbers of the kinds and fields.
-abbrev pub scope_number : Scope → ℕ
-scope_number Own = 0
-scope_number Main = 1
-
-abbrev pub format_number : Format → ℕ
-format_number Integer = 0
-format_number ByteText = 1
-format_number Char = 2
-
-abbrev pub unary_number : Unary → ℕ
-unary_number Plus = 3
-unary_number Minus = 4
-unary_number ByteNot = 5
-unary_number Extend = 14
-unary_number Shrink = 15
-
-abbrev pub binary_number : Binary → ℕ
-binary_number Add = 6
-binary_number Sub = 7
-binary_number Mul = 8
-binary_number Div = 9
-binary_number Rem = 10
-binary_number ByteAnd = 11
-binary_number ByteOr = 12
-
-abbrev pub comparison_number : Comparison → ℕ
-comparison_number Equal = 20
-comparison_number Unequal = 21
-comparison_number Less = 22
-comparison_number Greater = 23
-comparison_number AtMost = 24
-comparison_number AtLeast = 25
-
-abbrev pub junction_number : Junction → ℕ
-junction_number And = 27
-junction_number Or = 28
 
 abbrev pub node : ℕ → ℕ → ℕ → Node
 node k a o = record { kind = k; aux = a; operand = o }
@@ -102,56 +56,26 @@ node_of (Act s) = of_statement s
 node_of (Block n) = node 41 0 n
 
 -- What a record is, or none if its kind is not listed, a field is out of range, or an unused field is not 0.
-abbrev pub only : {A : Type 0} → Bool → A → Option A
-only true x = Some x
-only false x = None
-
-abbrev pub scope_of : ℕ → Option Scope
-scope_of a = cond (a == 0) (Some Own) (cond (a == 1) (Some Main) None)
-
-abbrev pub format_of : ℕ → Option Format
-format_of a = cond (a == 0) (Some Integer) (cond (a == 1) (Some ByteText) (cond (a == 2) (Some Char) None))
-
 abbrev pub constant_of : ℕ → ℕ → Option Expression
-constant_of a o =
-    cond (a == 0) (only (nat_lt o 32768) (Constant Int o)) (cond (a == 1) (only (nat_lt o 256) (Constant Byte o)) None)
+constant_of a o = option_and_then (λ k. then_some (nat_lt o (constant_count k)) (Constant k o)) (kind_of a)
 
 -- the kinds of expression without aux and operand
 abbrev pub operator_of : ℕ → Option Expression
-operator_of k =
-    cond (k == 3) (Some (OfOne Plus))
-    (cond (k == 4) (Some (OfOne Minus))
-    (cond (k == 5) (Some (OfOne ByteNot))
-    (cond (k == 6) (Some (OfTwo Add))
-    (cond (k == 7) (Some (OfTwo Sub))
-    (cond (k == 8) (Some (OfTwo Mul))
-    (cond (k == 9) (Some (OfTwo Div))
-    (cond (k == 10) (Some (OfTwo Rem))
-    (cond (k == 11) (Some (OfTwo ByteAnd))
-    (cond (k == 12) (Some (OfTwo ByteOr))
-    (cond (k == 14) (Some (OfOne Extend))
-    (cond (k == 15) (Some (OfOne Shrink)) None)))))))))))
+operator_of k = option_or (mapped OfOne (unary_of k)) (mapped OfTwo (binary_of k))
 
 abbrev pub expression_of : ℕ → ℕ → ℕ → Option Expression
 expression_of k a o =
     cond (k == 1) (constant_of a o)
     (cond (k == 2) (mapped (λ s. Variable s o) (scope_of a))
-    (cond (k == 13) (only (a == 0) (Call o))
+    (cond (k == 13) (then_some (a == 0) (Call o))
     (cond (k == 16) (cond (o == 0) (mapped Read (format_of a)) None)
     (cond (a == 0 && o == 0) (operator_of k) None))))
 
+abbrev pub joined_of : ℕ → Option Condition
+joined_of k = option_or (mapped Compare (comparison_of k)) (mapped Join (junction_of k))
+
 abbrev pub test_of : ℕ → Option Condition
-test_of k =
-    cond (k == 20) (Some (Compare Equal))
-    (cond (k == 21) (Some (Compare Unequal))
-    (cond (k == 22) (Some (Compare Less))
-    (cond (k == 23) (Some (Compare Greater))
-    (cond (k == 24) (Some (Compare AtMost))
-    (cond (k == 25) (Some (Compare AtLeast))
-    (cond (k == 26) (Some Not)
-    (cond (k == 27) (Some (Join And))
-    (cond (k == 28) (Some (Join Or))
-    (cond (k == 29) (Some Holds) None)))))))))
+test_of k = cond (k == 26) (Some Not) (cond (k == 29) (Some Holds) (joined_of k))
 
 abbrev pub condition_of : ℕ → ℕ → ℕ → Option Condition
 condition_of k a o = cond (a == 0 && o == 0) (test_of k) None
@@ -180,7 +104,7 @@ statement_of k a o =
     (cond (a == 0) (act_of k o) None)))
 
 abbrev pub block_of : ℕ → ℕ → Option ℕ
-block_of a o = only (a == 0 && (nat_lt 0 o && nat_le o 8192)) o
+block_of a o = then_some (a == 0 && (nat_lt 0 o && nat_le o 8192)) o
 
 -- kinds below 20 are expressions, those from 20 to 29 conditions, 41 is a block, and the others are statements
 abbrev pub sorted : ℕ → Option Expression → Option Condition → Option ℕ → Option Statement → Option Shape

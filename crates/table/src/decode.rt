@@ -1,6 +1,6 @@
 // What a node record is.
 ghost use Rattle.std.specs.Prelude.{◌≡◌};
-ghost use Rattle.table.specs.Shapes.{scope_of, format_of, constant_of, operator_of, expression_of, test_of, condition_of, if_of, bare_of, act_of, statement_of, block_of, shape_of, Decodes};
+ghost use Rattle.table.specs.Shapes.{constant_of, operator_of, expression_of, joined_of, test_of, condition_of, if_of, bare_of, act_of, statement_of, block_of, shape_of, Decodes};
 
 use crate::record::Node;
 use crate::shape::{
@@ -8,54 +8,19 @@ use crate::shape::{
     Unary,
 };
 
-fn scope_of(aux: u8) -> Option<Scope>
-    ensures { result ≡ scope_of aux }
-{
-    match aux {
-        0 => Some(Scope::Own),
-        1 => Some(Scope::Main),
-        _ => None,
-    }
-}
-
-fn format_of(aux: u8) -> Option<Format>
-    ensures { result ≡ format_of aux }
-{
-    match aux {
-        0 => Some(Format::Integer),
-        1 => Some(Format::Byte),
-        2 => Some(Format::Char),
-        _ => None,
-    }
-}
-
 fn constant_of(aux: u8, operand: u16) -> Option<Expression>
     ensures { result ≡ constant_of aux operand }
 {
-    match aux {
-        0 if operand < 32768 => Some(Expression::Constant(Kind::Int, operand)),
-        1 if operand < 256 => Some(Expression::Constant(Kind::Byte, operand)),
-        _ => None,
-    }
+    let kind = Kind::try_from(aux).ok()?;
+    (operand < kind.constants()).then_some(Expression::Constant(kind, operand))
 }
 
 fn operator_of(kind: u8) -> Option<Expression>
     ensures { result ≡ operator_of kind }
 {
-    match kind {
-        3 => Some(Expression::Unary(Unary::Plus)),
-        4 => Some(Expression::Unary(Unary::Minus)),
-        5 => Some(Expression::Unary(Unary::ByteNot)),
-        6 => Some(Expression::Binary(Binary::Add)),
-        7 => Some(Expression::Binary(Binary::Sub)),
-        8 => Some(Expression::Binary(Binary::Mul)),
-        9 => Some(Expression::Binary(Binary::Div)),
-        10 => Some(Expression::Binary(Binary::Rem)),
-        11 => Some(Expression::Binary(Binary::ByteAnd)),
-        12 => Some(Expression::Binary(Binary::ByteOr)),
-        14 => Some(Expression::Unary(Unary::Extend)),
-        15 => Some(Expression::Unary(Unary::Shrink)),
-        _ => None,
+    match Unary::try_from(kind) {
+        Ok(operator) => Some(Expression::Unary(operator)),
+        Err(_) => Some(Expression::Binary(Binary::try_from(kind).ok()?)),
     }
 }
 
@@ -64,12 +29,22 @@ fn expression_of(kind: u8, aux: u8, operand: u16) -> Option<Expression>
 {
     match kind {
         1 => constant_of(aux, operand),
-        2 => Some(Expression::Variable(scope_of(aux)?, operand)),
+        2 => Some(Expression::Variable(Scope::try_from(aux).ok()?, operand)),
         13 if aux == 0 => Some(Expression::Call(operand)),
-        16 if operand == 0 => Some(Expression::Read(format_of(aux)?)),
+        16 if operand == 0 => Some(Expression::Read(Format::try_from(aux).ok()?)),
         13 | 16 => None,
         _ if aux == 0 && operand == 0 => operator_of(kind),
         _ => None,
+    }
+}
+
+// A comparison or a junction.
+fn joined_of(kind: u8) -> Option<Condition>
+    ensures { result ≡ joined_of kind }
+{
+    match Comparison::try_from(kind) {
+        Ok(comparison) => Some(Condition::Compare(comparison)),
+        Err(_) => Some(Condition::Join(Junction::try_from(kind).ok()?)),
     }
 }
 
@@ -77,17 +52,9 @@ fn test_of(kind: u8) -> Option<Condition>
     ensures { result ≡ test_of kind }
 {
     match kind {
-        20 => Some(Condition::Compare(Comparison::Equal)),
-        21 => Some(Condition::Compare(Comparison::Unequal)),
-        22 => Some(Condition::Compare(Comparison::Less)),
-        23 => Some(Condition::Compare(Comparison::Greater)),
-        24 => Some(Condition::Compare(Comparison::AtMost)),
-        25 => Some(Condition::Compare(Comparison::AtLeast)),
         26 => Some(Condition::Not),
-        27 => Some(Condition::Join(Junction::And)),
-        28 => Some(Condition::Join(Junction::Or)),
         29 => Some(Condition::Holds),
-        _ => None,
+        _ => joined_of(kind),
     }
 }
 
@@ -139,9 +106,9 @@ fn statement_of(kind: u8, aux: u8, operand: u16) -> Option<Statement>
     ensures { result ≡ statement_of kind aux operand }
 {
     match kind {
-        33 => Some(Statement::Assign(scope_of(aux)?, operand)),
+        33 => Some(Statement::Assign(Scope::try_from(aux).ok()?, operand)),
         35 if operand == 0 => if_of(aux),
-        42 if operand == 0 => Some(Statement::Write(format_of(aux)?)),
+        42 if operand == 0 => Some(Statement::Write(Format::try_from(aux).ok()?)),
         35 | 42 => None,
         _ if aux == 0 => act_of(kind, operand),
         _ => None,
@@ -151,11 +118,7 @@ fn statement_of(kind: u8, aux: u8, operand: u16) -> Option<Statement>
 fn block_of(aux: u8, operand: u16) -> Option<u16>
     ensures { result ≡ block_of aux operand }
 {
-    if aux == 0 && operand > 0 && operand <= 8192 {
-        Some(operand)
-    } else {
-        None
-    }
+    (aux == 0 && operand > 0 && operand <= 8192).then_some(operand)
 }
 
 impl Node {
@@ -165,10 +128,10 @@ impl Node {
         ensures exactly { Decodes self.now result }
     {
         match self.kind {
-            0..20 => Some(Shape::Expression(expression_of(self.kind, self.aux, self.operand)?)),
-            20..30 => Some(Shape::Condition(condition_of(self.kind, self.aux, self.operand)?)),
-            41 => Some(Shape::Block(block_of(self.aux, self.operand)?)),
-            _ => Some(Shape::Statement(statement_of(self.kind, self.aux, self.operand)?)),
+            0..20 => expression_of(self.kind, self.aux, self.operand).map(Shape::Expression),
+            20..30 => condition_of(self.kind, self.aux, self.operand).map(Shape::Condition),
+            41 => block_of(self.aux, self.operand).map(Shape::Block),
+            _ => statement_of(self.kind, self.aux, self.operand).map(Shape::Statement),
         }
     }
 }

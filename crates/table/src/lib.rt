@@ -2,15 +2,20 @@
 #![tactic(auto)]
 
 mod decode;
+mod kind;
+mod number;
 mod read;
 mod record;
 mod shape;
+mod sort;
 mod view;
 
+pub use number::{Unlisted, result_number, result_of};
 pub use read::read_layout;
 pub use record::{Function, Header, Node, TableFault};
 pub use shape::{
     Binary, Comparison, Condition, Expression, Format, Junction, Kind, Scope, Shape, Statement,
     Unary,
 };
+pub use sort::WrongSort;
 pub use view::Table;

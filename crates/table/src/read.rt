@@ -2,9 +2,10 @@
 ghost use Rattle.std.specs.Prelude.{◌≡◌};
 ghost use Rattle.std.specs.List.{slice_get};
 ghost use Rattle.table.specs.Faults.{told_of_table};
-ghost use Rattle.table.specs.Fields.{header_of, result_of, record_fits, function_from, record_holds, first_broken, layout_of, kind_bit, variables_of};
+ghost use Rattle.table.specs.Fields.{header_of, record_fits, function_from, record_holds, first_broken, layout_of, kind_bit, variables_of};
 ghost use Rattle.table.specs.View.{view, node_of, function_of};
 
+use crate::number::result_of;
 use crate::record::{Function, Header, Node, TableFault};
 use crate::shape::Kind;
 use crate::view::Table;
@@ -30,18 +31,6 @@ fn header(bytes: &[u8]) -> Result<Header, TableFault>
     Ok(Header { functions, nodes })
 }
 
-// A result field: none if it is not listed.
-fn result_of(field: u8) -> Option<Option<Kind>>
-    ensures { result ≡ result_of field }
-{
-    match field {
-        0 => Some(None),
-        1 => Some(Some(Kind::Int)),
-        2 => Some(Some(Kind::Byte)),
-        _ => None,
-    }
-}
-
 // Whether the limits of a function record hold; the spare bits and the kinds past the last variable are 0.
 fn record_fits(parameters: u8, variables: u8, spare: u8, kinds: u32) -> bool
     ensures { result ≡ record_fits parameters variables spare kinds }
@@ -56,12 +45,9 @@ fn record_fits(parameters: u8, variables: u8, spare: u8, kinds: u32) -> bool
 fn function_from(res: u8, parameters: u8, variables: u8, spare: u8, kinds: u32) -> Option<Function>
     ensures { result ≡ function_from res parameters variables spare kinds }
 {
-    if !record_fits(parameters, variables, spare, kinds) {
-        return None;
-    }
-    let res = result_of(res)?;
-    Some(Function {
-        result: res,
+    let result = result_of(res).ok()?;
+    record_fits(parameters, variables, spare, kinds).then_some(Function {
+        result,
         parameters,
         variables,
         kinds,
@@ -72,10 +58,7 @@ fn function_from(res: u8, parameters: u8, variables: u8, spare: u8, kinds: u32) 
 fn record_holds(f: usize, found: Option<Function>) -> bool
     ensures { result ≡ record_holds f found }
 {
-    match found {
-        None => false,
-        Some(found) => f != 0 || (found.result.is_none() && found.parameters == 0),
-    }
+    found.is_some_and(|record| f != 0 || (record.result.is_none() && record.parameters == 0))
 }
 
 impl Table<'_> {
@@ -83,24 +66,14 @@ impl Table<'_> {
     pub fn function(&self, f: usize) -> Option<Function>
         ensures { result ≡ function_of (view self.now) f }
     {
-        if f >= self.functions {
-            return None;
-        }
-        let place = 3 + 6 * f;
-        let first = self.bytes[place];
-        let second = self.bytes[place + 1];
-        let kinds = u32::from_be_bytes([
-            self.bytes[place + 2],
-            self.bytes[place + 3],
-            self.bytes[place + 4],
-            self.bytes[place + 5],
-        ]);
+        let (records, _) = self.bytes[3..3 + 6 * self.functions].as_chunks::<6>();
+        let [first, second, kinds0, kinds1, kinds2, kinds3] = *records.get(f)?;
         function_from(
             first / 64,
             first / 4 % 16,
             first % 4 * 16 + second / 16,
             second % 16,
-            kinds,
+            u32::from_be_bytes([kinds0, kinds1, kinds2, kinds3]),
         )
     }
 
@@ -108,15 +81,12 @@ impl Table<'_> {
     pub fn node(&self, at: usize) -> Option<Node>
         ensures { result ≡ node_of (view self.now) at }
     {
-        if at >= self.nodes {
-            return None;
-        }
-        let place = 3 + 6 * self.functions + 3 * at;
-        let first = self.bytes[place];
+        let (nodes, _) = self.bytes[3 + 6 * self.functions..].as_chunks::<3>();
+        let [first, high, low] = *nodes.get(at)?;
         Some(Node {
             kind: first / 4,
             aux: first % 4,
-            operand: u16::from_be_bytes([self.bytes[place + 1], self.bytes[place + 2]]),
+            operand: u16::from_be_bytes([high, low]),
         })
     }
 }
@@ -125,12 +95,7 @@ impl Table<'_> {
 fn first_broken(t: &Table) -> Option<usize>
     ensures { result ≡ first_broken t.now.bytes.now t.now.functions 0 }
 {
-    for f in 0..t.functions {
-        if !record_holds(f, t.function(f)) {
-            return Some(f);
-        }
-    }
-    None
+    (0..t.functions).find(|f| !record_holds(*f, t.function(*f)))
 }
 
 // Takes a table's header and function records apart, and answers the two counts. Where a rule is broken it
@@ -166,10 +131,7 @@ impl Function {
     pub fn variable(&self, slot: u16) -> Option<Kind>
         ensures { result ≡ slice_get (variables_of self.now) slot }
     {
-        if slot >= u16::from(self.variables) {
-            return None;
-        }
-        Some(kind_bit(self.kinds, slot))
+        (slot < u16::from(self.variables)).then_some(kind_bit(self.kinds, slot))
     }
 }
 

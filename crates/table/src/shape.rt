@@ -1,65 +1,66 @@
-// What a node can be: the node kinds of Dana, sorted by what may stand where.
+// What a node can be: the node kinds of Dana, sorted by what may stand where. Kinds, scopes, formats, operators,
+// comparisons and junctions have the numbers of the layout.
 
 // The two number kinds.
 #[derive(Clone, Copy, PartialEq, Eq, Debug)]
 pub enum Kind {
-    Int,
-    Byte,
+    Int = 0,
+    Byte = 1,
 }
 
 // Whose variable is meant: the open function's own, or main's.
 #[derive(Clone, Copy, PartialEq, Eq, Debug)]
 pub enum Scope {
-    Own,
-    Main,
+    Own = 0,
+    Main = 1,
 }
 
 // What a read takes and a write sends: the text of an int, the text of a byte, or one byte as it is.
 #[derive(Clone, Copy, PartialEq, Eq, Debug)]
 pub enum Format {
-    Integer,
-    Byte,
-    Char,
+    Integer = 0,
+    Byte = 1,
+    Char = 2,
 }
 
 // The operators with one operand: the signs `+` and `-` of an int, `!` of a byte, and the two conversions.
 #[derive(Clone, Copy, PartialEq, Eq, Debug)]
 pub enum Unary {
-    Plus,
-    Minus,
-    ByteNot,
-    Extend,
-    Shrink,
+    Plus = 3,
+    Minus = 4,
+    ByteNot = 5,
+    Extend = 14,
+    Shrink = 15,
 }
 
 // The operators with two operands: arithmetic on either kind; `&` and `|` on bytes.
 #[derive(Clone, Copy, PartialEq, Eq, Debug)]
 pub enum Binary {
-    Add,
-    Sub,
-    Mul,
-    Div,
-    Rem,
-    ByteAnd,
-    ByteOr,
+    Add = 6,
+    Sub = 7,
+    Mul = 8,
+    Div = 9,
+    Rem = 10,
+    ByteAnd = 11,
+    ByteOr = 12,
 }
 
 // The comparisons `=`, `<>`, `<`, `>`, `<=` and `>=`.
 #[derive(Clone, Copy, PartialEq, Eq, Debug)]
 pub enum Comparison {
-    Equal,
-    Unequal,
-    Less,
-    Greater,
-    AtMost,
-    AtLeast,
+    Equal = 20,
+    Unequal = 21,
+    Less = 22,
+    Greater = 23,
+    AtMost = 24,
+    AtLeast = 25,
 }
 
 // The ways to join two conditions.
 #[derive(Clone, Copy, PartialEq, Eq, Debug)]
 pub enum Junction {
-    And,
-    Or,
+    And = 27,
+    Or = 28,
 }
 
 // A node that gives a value. The number of a variable is its slot, that of a call its function.

@@ -1,9 +1,6 @@
 use Rattle.std.proofs.Common.{rules}
-use Rattle.table.proofs.Slots.{variable-at, variable-past}
+use Rattle.table.proofs.Slots.{variable_in}
 use Rattle.table.proofs.record.Function.variable.Goals as goal
 
-pub returns-then-slot-from : goal.returns-then-slot-from
-returns-then-slot-from c = search (rules, variable-past)
-
 pub returns : goal.returns
-returns c = search (rules, variable-at)
+returns c = let e = variable_in c.args.self.now c.args.slot in search rules
