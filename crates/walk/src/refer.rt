@@ -3,9 +3,9 @@ ghost use Rattle.std.specs.Prelude.{◌≡◌};
 ghost use Rattle.std.specs.Option.{ok_or};
 ghost use Rattle.std.specs.List.{slice_get};
 ghost use Rattle.table.specs.Flow.{mapped, passing};
-ghost use Rattle.table.specs.View.{view};
 ghost use Rattle.language.specs.Rules.{slot_kind, called, parameter_kinds};
 ghost use Rattle.walk.specs.Bodies.{signature_of, signature_in};
+ghost use Rattle.walk.specs.Reads.{seen};
 ghost use Rattle.walk.specs.Walk.{called_at};
 ghost use Rattle.walk.specs.declared.fault.CheckFault.TheVariants.{Variable};
 
@@ -36,7 +36,7 @@ impl Context {
 impl Body<'_> {
     // The function that a call names: one that is there, but not main.
     pub fn called(&self, f: u16) -> Option<Function>
-        ensures { mapped signature_of result ≡ called (signature_in (view self.now.table.now)) f }
+        ensures { mapped signature_of result ≡ called (signature_in (seen self.now)) f }
     {
         if f == 0 {
             return None;
@@ -46,7 +46,7 @@ impl Body<'_> {
 
     // The same for the call at `at`, which is refused if there is no such function.
     pub(crate) fn called_at(&self, f: u16, at: usize) -> Result<Function, CheckFault>
-        ensures { passing signature_of result ≡ called_at (signature_in (view self.now.table.now)) f at }
+        ensures { passing signature_of result ≡ called_at (signature_in (seen self.now)) f at }
     {
         self.called(f).ok_or(CheckFault::Function(at))
     }

@@ -1,6 +1,6 @@
 use Rattle.std.proofs.Common.{rules}
 use Rattle.walk.proofs.Steps.{stmt_step, block_step, items_step}
-use Rattle.walk.proofs.statements.+block_repeat_stmt_stmt_of.Goals as goal
+use Rattle.walk.proofs.found.Body.+block_repeat_statement_statement_of.Goals as goal
 
 pub block-returns-in_err-count : goal.block-returns-in_err-count
 block-returns-in_err-count t c = search (rules, block_step)
@@ -17,14 +17,14 @@ block-loop-i-preserved t c = search (rules, items_step)
 pub block-returns : goal.block-returns
 block-returns t c = search (rules, block_step)
 
-pub stmt-returns-in-Ok-Statement : goal.stmt-returns-in-Ok-Statement
-stmt-returns-in-Ok-Statement t c = search (rules, stmt_step)
+pub statement-returns-in-Ok-Statement : goal.statement-returns-in-Ok-Statement
+statement-returns-in-Ok-Statement t c = search (rules, stmt_step)
 
-pub stmt-returns-in-Ok : goal.stmt-returns-in-Ok
-stmt-returns-in-Ok t c = search (rules, stmt_step)
+pub statement-returns-in-Ok : goal.statement-returns-in-Ok
+statement-returns-in-Ok t c = search (rules, stmt_step)
 
-pub stmt-returns-in-Err : goal.stmt-returns-in-Err
-stmt-returns-in-Err t c = search (rules, stmt_step)
+pub statement-returns-in-Err : goal.statement-returns-in-Err
+statement-returns-in-Err t c = search (rules, stmt_step)
 
-pub stmt_of-returns-in-Write : goal.stmt_of-returns-in-Write
-stmt_of-returns-in-Write t c = record { is = search (rules, c.format_kind-kind.ensures); kept = search rules; bound = search rules }
+pub statement_of-returns-in-Write-clause-is : goal.statement_of-returns-in-Write-clause-is
+statement_of-returns-in-Write-clause-is t c = search (rules, c.format_kind.ensures)
