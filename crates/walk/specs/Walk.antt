@@ -1,9 +1,10 @@
 -- The walk over the nodes in preorder, by the levels of nesting that are left. Each rule is applied where it is
 -- reached; a walk of a subtree answers what it found and the next node's place, or the first rule broken.
-use Rattle.std.specs.Prelude.{ℕ, zero, suc, ◌+◌, max, Bool, true, false, cond, not, ◌&&◌, List, [], ◌∷◌, length, Some, None, Ok, Err, Option, Result, nat_lt}
+use Rattle.std.specs.Prelude.{◌≡◌, ℕ, zero, suc, ◌+◌, max, Bool, true, false, cond, not, ◌&&◌, List, [], ◌∷◌, length, Some, None, Ok, Err, Option, Result, nat_lt}
 use Rattle.std.specs.Option.{ok_or}
 use Rattle.table.specs.Flow.{onward}
 use Rattle.table.specs.Shapes.{shape_of}
+use Rattle.table.specs.Sorts.{expression_in, condition_in, statement_in, block_in}
 use Rattle.table.specs.View.{View, node_at}
 use Rattle.table.specs.declared.shape.Kind.{Kind}
 use Rattle.table.specs.declared.shape.Kind.TheVariants.{Int, Byte}
@@ -16,7 +17,7 @@ use Rattle.table.specs.declared.shape.Condition.TheVariants.{Compare, Not, Join,
 use Rattle.table.specs.declared.shape.Statement.{Statement}
 use Rattle.table.specs.declared.shape.Statement.TheVariants.{Skip, Assign, Perform, If, IfElse, Loop as Repeat, Break, Continue, Exit as Leave, Return, Write}
 use Rattle.table.specs.declared.shape.Shape.{Shape}
-use Rattle.table.specs.declared.shape.Shape.TheVariants.{Expression as Value, Condition as Test, Statement as Act, Block}
+use Rattle.table.specs.declared.sort.WrongSort.{WrongSort}
 use Rattle.language.specs.Tree.{Signature}
 use Rattle.language.specs.Measures.{format_kind, operand_kind, unary_kind, unary_words}
 use Rattle.language.specs.Rules.{Env, slot_kind, called, parameter_kinds, is_open}
@@ -37,29 +38,26 @@ arrived v k i =
     (Err (NoNode i))
 
 -- It is of the sort that is asked for.
+abbrev pub sorted_at : {A : Type 0} → ℕ → Result A WrongSort → Answer A
+sorted_at i (Ok s) = Ok s
+sorted_at i (Err e) = Err (Sort i)
+
+-- what arrival found, taken for a sort by a conversion; a refusal is final
+abbrev pub TakenFor : {A : Type 0} → (Shape → Result A WrongSort → Type 0) → ℕ → Answer Shape → Answer A → Type 0
+TakenFor gives i (Err e) r = r ≡ Err e
+TakenFor {A} gives i (Ok s) r = (w : Result A WrongSort) × gives s w × (r ≡ sorted_at i w)
+
 abbrev pub as_value : ℕ → Shape → Answer Expression
-as_value i (Value s) = Ok s
-as_value i (Test s) = Err (Sort i)
-as_value i (Act s) = Err (Sort i)
-as_value i (Block n) = Err (Sort i)
+as_value i s = sorted_at i (expression_in s)
 
 abbrev pub as_test : ℕ → Shape → Answer Condition
-as_test i (Value s) = Err (Sort i)
-as_test i (Test s) = Ok s
-as_test i (Act s) = Err (Sort i)
-as_test i (Block n) = Err (Sort i)
+as_test i s = sorted_at i (condition_in s)
 
 abbrev pub as_act : ℕ → Shape → Answer Statement
-as_act i (Value s) = Err (Sort i)
-as_act i (Test s) = Err (Sort i)
-as_act i (Act s) = Ok s
-as_act i (Block n) = Err (Sort i)
+as_act i s = sorted_at i (statement_in s)
 
 abbrev pub as_block : ℕ → Shape → Answer ℕ
-as_block i (Value s) = Err (Sort i)
-as_block i (Test s) = Err (Sort i)
-as_block i (Act s) = Err (Sort i)
-as_block i (Block n) = Ok n
+as_block i s = sorted_at i (block_in s)
 
 -- Kinds.
 abbrev pub is_int : Kind → Bool

@@ -6,7 +6,7 @@ ghost use Rattle.walk.specs.Walk.{cond_at};
 use crate::fault::CheckFault;
 use crate::found::{Body, Size};
 use crate::measure::side_by_side;
-use table::{Condition, Kind, Shape};
+use table::{Condition, Kind};
 
 impl Body<'_> {
     // The condition at `at`: its height and words, and the next node's place.
@@ -15,11 +15,8 @@ impl Body<'_> {
         ensures is { result ≡ test_walk self.now left at }
         ensures bound { SizeSpans self.now at result }
     {
-        match self.arrive(at, left) {
-            Ok(Shape::Condition(shape)) => self.condition_of(shape, at, left - 1),
-            Ok(_) => Err(CheckFault::Sort(at)),
-            Err(fault) => Err(fault),
-        }
+        let shape = self.arrive_as(at, left)?;
+        self.condition_of(shape, at, left - 1)
     }
 
     // The condition of that shape at `at`, with `left` levels of nesting left for its children.

@@ -11,7 +11,7 @@ use crate::loops::Loops;
 use crate::measure::side_by_side;
 use crate::opens::{LoopGuard, push_loop};
 use crate::operators::format_kind;
-use table::{Kind, Shape, Statement};
+use table::{Kind, Statement};
 
 // A break or continue names an open loop.
 fn leave_loop(loops: &Loops, name: u16, at: usize) -> Result<(Size, usize), CheckFault>
@@ -54,11 +54,8 @@ impl Body<'_> {
         ensures kept { names loops.new ≡ names loops.old }
         ensures bound { SizeSpans self.now at result }
     {
-        match self.arrive(at, left) {
-            Ok(Shape::Statement(shape)) => self.statement_of(shape, at, left - 1, loops),
-            Ok(_) => Err(CheckFault::Sort(at)),
-            Err(fault) => Err(fault),
-        }
+        let shape = self.arrive_as(at, left)?;
+        self.statement_of(shape, at, left - 1, loops)
     }
 
     // The statement of that shape at `at`, with `left` levels of nesting left for its children.
@@ -149,9 +146,7 @@ impl Body<'_> {
         ensures kept { names loops.new ≡ names loops.old }
         ensures bound { BlockSpans self.now at result }
     {
-        let Shape::Block(count) = self.arrive(at, left)? else {
-            return Err(CheckFault::Sort(at));
-        };
+        let count: u16 = self.arrive_as(at, left)?;
         let mut size = Size {
             height: 0,
             words: 0,

@@ -10,7 +10,7 @@ use crate::found::{Arguments, Body, Found, Size};
 use crate::measure::{add_argument, leaf, operation_on_one, operation_on_two, value_of_call};
 use crate::operators::format_kind;
 use crate::refer::parameter_kind;
-use table::{Expression, Function, Shape};
+use table::{Expression, Function};
 
 impl Body<'_> {
     // The expression at `at`: its kind, height and words, and the next node's place.
@@ -19,11 +19,8 @@ impl Body<'_> {
         ensures is { result ≡ value_walk self.now left at }
         ensures bound { FoundSpans self.now at result }
     {
-        match self.arrive(at, left) {
-            Ok(Shape::Expression(shape)) => self.expression_of(shape, at, left - 1),
-            Ok(_) => Err(CheckFault::Sort(at)),
-            Err(fault) => Err(fault),
-        }
+        let shape = self.arrive_as(at, left)?;
+        self.expression_of(shape, at, left - 1)
     }
 
     // The expression of that shape at `at`, with `left` levels of nesting left for its children.

@@ -1,15 +1,15 @@
-use Rattle.std.proofs.Common.{◌≡◌, ℕ, ◌+◌, drop, Some, sym, arith, rules}
+use Rattle.std.proofs.Common.{◌≡◌, ℕ, ◌+◌, drop, Some, Ok, sym, ◌∙◌, arith, rules}
 use Rattle.std.specs.List.{slice_get}
 use Rattle.table.specs.Flow.{onward}
 use Rattle.table.specs.declared.record.Function.{Function}
 use Rattle.table.specs.declared.shape.Kind.{Kind}
 use Rattle.language.specs.Rules.{parameter_kinds}
 use Rattle.walk.specs.Bodies.{signature_of}
-use Rattle.walk.specs.Reads.{value_walk}
+use Rattle.walk.specs.Reads.{seen, env, value_walk}
 use Rattle.walk.specs.Walk.{args_from, added}
 use Rattle.walk.specs.declared.found.Body.{Body}
 use Rattle.walk.specs.declared.found.Arguments.{Arguments}
-use Rattle.walk.proofs.Steps.{expr_step, args_step, args_end, nth-within}
+use Rattle.walk.proofs.Steps.{expr_after, args_step, args_end, nth-within}
 use Rattle.walk.proofs.found.Body.+arguments_expression_expression_of.Goals as goal
 
 -- one more argument of the kinds that the callee asks for
@@ -37,11 +37,10 @@ arguments-loop-kind-preserved t c =
 pub arguments-returns : goal.arguments-returns
 arguments-returns t c = search (rules, args_end)
 
-pub expression-returns-in-Ok-Expression : goal.expression-returns-in-Ok-Expression
-expression-returns-in-Ok-Expression t c = search (rules, expr_step)
+pub expression-returns-in_err-shape : goal.expression-returns-in_err-shape
+expression-returns-in_err-shape t c = search (rules, expr_after)
 
-pub expression-returns-in-Ok : goal.expression-returns-in-Ok
-expression-returns-in-Ok t c = search (rules, expr_step)
-
-pub expression-returns-in-Err : goal.expression-returns-in-Err
-expression-returns-in-Err t c = search (rules, expr_step)
+pub expression-returns-clause-is : goal.expression-returns-clause-is
+expression-returns-clause-is t c =
+    c.expression_of.ensures.is
+    ∙ sym (expr_after (seen c.args.self.now) (env c.args.self.now) c.args.left c.args.at (Ok c.in_ok-shape.shape) c.in_ok-shape.ensures.is)
