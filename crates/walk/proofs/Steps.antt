@@ -1,5 +1,5 @@
 -- One step of each walk, at any number of levels, arguments or statements.
-use Rattle.std.proofs.Common.{◌≡◌, ℕ, zero, suc, ◌+◌, ◌-◌, ◌<◌, ◌≤◌, List, [], ◌∷◌, length, take, drop, Some, None, Ok, Err, Result, sym, refl, ap, ◌∙◌, subst, arith}
+use Rattle.std.proofs.Common.{◌≡◌, ℕ, zero, suc, ◌+◌, ◌-◌, ◌<◌, ◌≤◌, List, [], ◌∷◌, length, take, drop, Some, None, Ok, Err, Option, Result, sym, refl, ap, ◌∙◌, subst, arith}
 use Rattle.std.specs.List.{slice_get}
 use Rattle.table.specs.Flow.{onward}
 use Rattle.table.specs.Sorts.{expression_in, condition_in, statement_in, block_in}
@@ -15,7 +15,6 @@ use Rattle.walk.specs.Bodies.{bodies_from, function_from}
 use Rattle.walk.specs.Walk.{Answer, arrived, sorted_at, TakenFor, as_value, as_test, as_act, as_block, expr_at, expr_from, args_from, added, cond_at, cond_from, stmt_at, stmt_from, block_from, items_from, beside, size}
 use Rattle.walk.specs.declared.found.Found.{Found}
 use Rattle.walk.specs.declared.found.Size.{Size}
-use Rattle.walk.specs.declared.found.Arguments.{Arguments}
 
 pub nth-take : {A : Type 0} (n i : ℕ) (xs : List A) → i < n → slice_get (take n xs) i ≡ slice_get xs i
 nth-take zero i xs h = absurd (omega arith)
@@ -35,13 +34,13 @@ nth-within (y ∷ xs) zero x h = omega arith
 nth-within (y ∷ xs) (suc i) x h = let r = nth-within xs i x h in omega arith
 
 module _ (one : ℕ → Answer (Found × ℕ)) where
-  pub args_step : (ks : List Kind) (n i : ℕ) (k : Kind) (a : Arguments) (j : ℕ) → slice_get ks i ≡ Some k →
+  pub args_step : (ks : List Kind) (n i : ℕ) (k : Kind) (a : Option Size) (j : ℕ) → slice_get ks i ≡ Some k →
       args_from one (drop i ks) n a j ≡ onward (one j) (λ p. args_from one (drop (i + 1) ks) (n + 1) (added a n k p.0) p.1)
   args_step [] n i k a j h = absurd (grind arith)
   args_step (x ∷ ks) n zero k a j h = let e : x ≡ k = grind arith in rw e
   args_step (x ∷ ks) n (suc i) k a j h = let e : suc i + 1 ≡ suc (i + 1) = omega arith in rw e (args_step ks n i k a j h)
 
-  pub args_end : (ks : List Kind) (n i : ℕ) (a : Arguments) (j : ℕ) → slice_get ks i ≡ None → args_from one (drop i ks) n a j ≡ Ok (a, j)
+  pub args_end : (ks : List Kind) (n i : ℕ) (a : Option Size) (j : ℕ) → slice_get ks i ≡ None → args_from one (drop i ks) n a j ≡ Ok (a, j)
   args_end [] n zero a j h = refl
   args_end [] n (suc i) a j h = refl
   args_end (x ∷ ks) n zero a j h = absurd (grind arith)

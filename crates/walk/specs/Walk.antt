@@ -1,7 +1,7 @@
 -- The walk over the nodes in preorder, by the levels of nesting that are left. Each rule is applied where it is
 -- reached; a walk of a subtree answers what it found and the next node's place, or the first rule broken.
 use Rattle.std.specs.Prelude.{◌≡◌, ℕ, zero, suc, ◌+◌, max, Bool, true, false, cond, not, ◌&&◌, List, [], ◌∷◌, length, Some, None, Ok, Err, Option, Result, nat_lt}
-use Rattle.std.specs.Option.{ok_or}
+use Rattle.std.specs.Option.{ok_or, unwrap_or}
 use Rattle.table.specs.Flow.{onward}
 use Rattle.table.specs.Shapes.{shape_of}
 use Rattle.table.specs.Sorts.{expression_in, condition_in, statement_in, block_in}
@@ -25,7 +25,6 @@ use Rattle.walk.specs.declared.fault.CheckFault.{CheckFault}
 use Rattle.walk.specs.declared.fault.CheckFault.TheVariants.{NoNode, Nesting, Field, Sort, Variable, Child, Function, Loop, Exit}
 use Rattle.walk.specs.declared.found.Found.{Found}
 use Rattle.walk.specs.declared.found.Size.{Size}
-use Rattle.walk.specs.declared.found.Arguments.{Arguments}
 
 abbrev pub Answer : Type 0 → Type 0
 Answer A = Result A CheckFault
@@ -100,18 +99,26 @@ sized k s = found k s.height s.words
 abbrev pub topped : Found → Size
 topped a = size a.height (a.words + 1)
 
--- Arguments: argument n of kind k, behind the others.
-abbrev pub added : Arguments → ℕ → Kind → Found → Arguments
-added a n k f =
-    record { fit = a.fit && same_kind k f.kind; size = size (max a.size.height (n + f.height)) (a.size.words + f.words) }
+-- Arguments: the size of those so far, or none if some argument does not have its parameter's kind.
+abbrev pub no_arguments : Option Size
+no_arguments = Some (size 0 0)
 
-abbrev pub no_arguments : Arguments
-no_arguments = record { fit = true; size = size 0 0 }
+-- argument n of kind k, behind the others
+abbrev pub added : Option Size → ℕ → Kind → Found → Option Size
+added None n k f = None
+added (Some a) n k f = cond (same_kind k f.kind) (Some (size (max a.height (n + f.height)) (a.words + f.words))) None
+
+abbrev pub needed : Option Size → Size
+needed a = unwrap_or a (size 0 0)
 
 -- arguments of these kinds from place j on, the first of them argument n; `one` walks one
-abbrev pub args_from : (ℕ → Answer (Found × ℕ)) → List Kind → ℕ → Arguments → ℕ → Answer (Arguments × ℕ)
+abbrev pub args_from : (ℕ → Answer (Found × ℕ)) → List Kind → ℕ → Option Size → ℕ → Answer (Option Size × ℕ)
 args_from one [] n a j = Ok (a, j)
 args_from one (k ∷ ks) n a j = onward (one j) (λ p. args_from one ks (n + 1) (added a n k p.0) p.1)
+
+-- all arguments of a call at node i have their parameters' kinds
+abbrev pub fitting : ℕ → Option Size → Answer Size
+fitting i a = ok_or a (Child i)
 
 -- The function that a call at node i names.
 abbrev pub called_at : (ℕ → Option Signature) → ℕ → ℕ → Answer Signature
@@ -141,7 +148,7 @@ expr_at e one i (OfTwo b) =
 expr_at e one i (Call f) =
     onward (called_at e.functions f i) (λ g. onward (with_result i g) (λ k.
     onward (args_from one (parameter_kinds g) 0 no_arguments (i + 1)) (λ q.
-    judged i q.0.fit (found k (max 1 q.0.size.height) (q.0.size.words + 1), q.1))))
+    onward (fitting i q.0) (λ s. Ok (found k (max 1 s.height) (s.words + 1), q.1)))))
 expr_at e one i (Read q) = Ok (found (format_kind q) 1 1, i + 1)
 
 abbrev pub expr_from : View → Env → ℕ → ℕ → Answer (Found × ℕ)
@@ -188,7 +195,7 @@ stmt_at e value test body ns i (Assign s x) =
 stmt_at e value test body ns i (Perform f) =
     onward (called_at e.functions f i) (λ g. onward (no_result i g.result) (λ _.
     onward (args_from value (parameter_kinds g) 0 no_arguments (i + 1)) (λ q.
-    judged i q.0.fit (size q.0.size.height (q.0.size.words + 1), q.1))))
+    onward (fitting i q.0) (λ s. Ok (size s.height (s.words + 1), q.1)))))
 stmt_at e value test body ns i If =
     onward (test (i + 1)) (λ p. onward (body ns p.1) (λ q. Ok (beside p.0 q.0, q.1)))
 stmt_at e value test body ns i IfElse =

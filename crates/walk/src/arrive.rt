@@ -1,11 +1,11 @@
 // Arrival at a node: the rules that come before its children.
 ghost use Rattle.std.specs.Prelude.{◌≡◌, ◌<◌, OnOk};
 ghost use Rattle.walk.specs.Reads.{seen};
-ghost use Rattle.walk.specs.Walk.{arrived, TakenFor, same_kind, operates};
+ghost use Rattle.walk.specs.Walk.{arrived, TakenFor};
 
 use crate::fault::CheckFault;
 use crate::found::Body;
-use table::{Binary, Kind, Shape, WrongSort};
+use table::{Shape, WrongSort};
 
 impl Body<'_> {
     // The node at `at`, with `left` levels of nesting left for it and below it.
@@ -35,24 +35,5 @@ impl Body<'_> {
             Ok(found) => Ok(found),
             Err(_) => Err(CheckFault::Sort(at)),
         }
-    }
-}
-
-pub(crate) fn same_kind(a: Kind, b: Kind) -> bool
-    ensures { result ≡ same_kind a b }
-{
-    match (a, b) {
-        (Kind::Int, Kind::Int) | (Kind::Byte, Kind::Byte) => true,
-        _ => false,
-    }
-}
-
-// Whether an operator takes operands of a kind.
-pub(crate) fn takes_kind(operator: Binary, kind: Kind) -> bool
-    ensures { result ≡ operates operator kind }
-{
-    match operator {
-        Binary::ByteAnd | Binary::ByteOr => same_kind(Kind::Byte, kind),
-        _ => true,
     }
 }

@@ -9,18 +9,11 @@ pub struct Found {
     pub words: u16,
 }
 
-// Of a condition, a statement or a block.
-#[derive(Clone, Copy)]
+// Of a condition, a statement, a block or the arguments of a call.
+#[derive(Clone, Copy, Default)]
 pub struct Size {
     pub height: u16,
     pub words: u16,
-}
-
-// Of the arguments of a call: whether each has its parameter's kind, and their size.
-#[derive(Clone, Copy)]
-pub struct Arguments {
-    pub fit: bool,
-    pub size: Size,
 }
 
 // The function whose body is walked, and main where that is another.

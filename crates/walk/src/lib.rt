@@ -17,6 +17,6 @@ mod values;
 mod whole;
 
 pub use fault::CheckFault;
-pub use found::{Arguments, Body, Context, Found, Passed, Size};
+pub use found::{Body, Context, Found, Passed, Size};
 pub use operators::{format_kind, operand_kind, unary_kind, unary_words};
 pub use whole::walk_table;

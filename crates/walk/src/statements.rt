@@ -2,7 +2,7 @@
 ghost use Rattle.std.specs.Prelude.{◌≡◌, ◌+◌, ◌<◌};
 ghost use Rattle.walk.specs.Names.{names};
 ghost use Rattle.walk.specs.Reads.{act_walk, block_walk, act_shaped, SizeSpans, BlockSpans};
-ghost use Rattle.walk.specs.Walk.{leaves, exits};
+ghost use Rattle.walk.specs.Walk.{size, leaves, exits};
 ghost use Rattle.table.specs.declared.shape.Statement.TheVariants.{Loop as Repeat};
 
 use crate::fault::CheckFault;
@@ -13,17 +13,23 @@ use crate::opens::{LoopGuard, push_loop};
 use crate::operators::format_kind;
 use table::{Kind, Statement};
 
+// A statement of one word and nothing below it.
+fn one_word() -> Size
+    ensures { result ≡ size 0 1 }
+{
+    Size {
+        words: 1,
+        ..Size::default()
+    }
+}
+
 // A break or continue names an open loop.
 fn leave_loop(loops: &Loops, name: u16, at: usize) -> Result<(Size, usize), CheckFault>
     requires { at < 8192 }
     ensures { result ≡ leaves (names loops.now) name at }
 {
     if loops.is_open(name) {
-        let size = Size {
-            height: 0,
-            words: 1,
-        };
-        Ok((size, at + 1))
+        Ok((one_word(), at + 1))
     } else {
         Err(CheckFault::Loop(at))
     }
@@ -35,13 +41,7 @@ fn exit_from(res: Option<Kind>, at: usize) -> Result<(Size, usize), CheckFault>
     ensures { result ≡ exits res at }
 {
     match res {
-        None => {
-            let size = Size {
-                height: 0,
-                words: 1,
-            };
-            Ok((size, at + 1))
-        }
+        None => Ok((one_word(), at + 1)),
         Some(_) => Err(CheckFault::Exit(at)),
     }
 }
@@ -73,13 +73,7 @@ impl Body<'_> {
         ensures bound { SizeSpans self.now at result }
     {
         match shape {
-            Statement::Skip => {
-                let size = Size {
-                    height: 0,
-                    words: 0,
-                };
-                Ok((size, at + 1))
-            }
+            Statement::Skip => Ok((Size::default(), at + 1)),
             Statement::Assign(scope, slot) => {
                 let kind = self.context.kind_at(scope, slot, at)?;
                 self.one_value(kind, at, left)
@@ -147,10 +141,7 @@ impl Body<'_> {
         ensures bound { BlockSpans self.now at result }
     {
         let count: u16 = self.arrive_as(at, left)?;
-        let mut size = Size {
-            height: 0,
-            words: 0,
-        };
+        let mut size = Size::default();
         let mut next = at + 1;
         for _i in 0..count {
             let (statement, after) = self.statement(next, left - 1, loops)?;

@@ -4,7 +4,7 @@ ghost use Rattle.table.specs.Flow.{onward};
 ghost use Rattle.language.specs.Rules.{parameter_kinds};
 ghost use Rattle.walk.specs.Bodies.{signature_in};
 ghost use Rattle.walk.specs.Reads.{seen, value_walk, SizeSpans};
-ghost use Rattle.walk.specs.Walk.{args_from, no_arguments, called_at, no_result, judged, same_kind, stacked, topped, size};
+ghost use Rattle.walk.specs.Walk.{args_from, no_arguments, called_at, no_result, fitting, judged, same_kind, stacked, topped, size};
 
 use crate::fault::CheckFault;
 use crate::found::{Body, Size};
@@ -41,7 +41,7 @@ impl Body<'_> {
     // A call of a function without result.
     pub(crate) fn perform(&self, f: u16, at: usize, left: u8) -> Result<(Size, usize), CheckFault>
         requires { at < self.now.table.now.nodes }
-        ensures is { result ≡ onward (called_at (signature_in (seen self.now)) f at) (λ g. onward (no_result at g.result) (λ _. onward (args_from (value_walk self.now left) (parameter_kinds g) 0 no_arguments (at + 1)) (λ q. judged at q.0.fit (size q.0.size.height (q.0.size.words + 1), q.1)))) }
+        ensures is { result ≡ onward (called_at (signature_in (seen self.now)) f at) (λ g. onward (no_result at g.result) (λ _. onward (args_from (value_walk self.now left) (parameter_kinds g) 0 no_arguments (at + 1)) (λ q. onward (fitting at q.0) (λ s. Ok (size s.height (s.words + 1), q.1))))) }
         ensures bound { SizeSpans self.now at result }
     {
         let callee = self.called_at(f, at)?;

@@ -3,10 +3,10 @@ ghost use Rattle.std.specs.Prelude.{◌≡◌, ◌+◌, ◌<◌, ◌≤◌, IfOk
 ghost use Rattle.language.specs.Rules.{parameter_kinds};
 ghost use Rattle.walk.specs.Bodies.{signature_of};
 ghost use Rattle.walk.specs.Reads.{env, value_walk, FoundSpans};
-ghost use Rattle.walk.specs.Walk.{expr_at, args_from, no_arguments};
+ghost use Rattle.walk.specs.Walk.{expr_at, args_from, no_arguments, needed};
 
 use crate::fault::CheckFault;
-use crate::found::{Arguments, Body, Found, Size};
+use crate::found::{Body, Found, Size};
 use crate::measure::{add_argument, leaf, operation_on_one, operation_on_two, value_of_call};
 use crate::operators::format_kind;
 use crate::refer::parameter_kind;
@@ -60,24 +60,19 @@ impl Body<'_> {
         }
     }
 
-    // The arguments of a call from `at` on: whether they fit the parameters, their size, and the next node's place.
+    // The arguments of a call from `at` on: their size, or none if one does not have its parameter's kind, and the next
+    // node's place.
     #[cycle(arguments_expression_expression_of)]
     pub(crate) fn arguments(
         &self,
         callee: &Function,
         at: usize,
         left: u8,
-    ) -> Result<(Arguments, usize), CheckFault>
+    ) -> Result<(Option<Size>, usize), CheckFault>
         ensures is { result ≡ args_from (value_walk self.now left) (parameter_kinds (signature_of callee.now)) 0 no_arguments at }
-        ensures bound { IfOk result (λ p. (at ≤ p.1) × (p.0.size.height + at ≤ p.1) × (p.0.size.words + at ≤ p.1) × (at ≤ self.now.table.now.nodes → p.1 ≤ self.now.table.now.nodes)) }
+        ensures bound { IfOk result (λ p. (at ≤ p.1) × ((needed p.0).height + at ≤ p.1) × ((needed p.0).words + at ≤ p.1) × (at ≤ self.now.table.now.nodes → p.1 ≤ self.now.table.now.nodes)) }
     {
-        let mut taken = Arguments {
-            fit: true,
-            size: Size {
-                height: 0,
-                words: 0,
-            },
-        };
+        let mut taken = Some(Size::default());
         let mut next = at;
         let mut i = 0;
         while let Some(kind) = parameter_kind(callee, i) {

@@ -1,4 +1,4 @@
-use Rattle.std.proofs.Common.{◌≡◌, ℕ, ◌+◌, drop, Some, Ok, sym, ◌∙◌, arith, rules}
+use Rattle.std.proofs.Common.{◌≡◌, ℕ, ◌+◌, drop, Some, Ok, Option, sym, ◌∙◌, arith, rules}
 use Rattle.std.specs.List.{slice_get}
 use Rattle.table.specs.Flow.{onward}
 use Rattle.table.specs.declared.record.Function.{Function}
@@ -8,12 +8,12 @@ use Rattle.walk.specs.Bodies.{signature_of}
 use Rattle.walk.specs.Reads.{seen, env, value_walk}
 use Rattle.walk.specs.Walk.{args_from, added}
 use Rattle.walk.specs.declared.found.Body.{Body}
-use Rattle.walk.specs.declared.found.Arguments.{Arguments}
+use Rattle.walk.specs.declared.found.Size.{Size}
 use Rattle.walk.proofs.Steps.{expr_after, args_step, args_end, nth-within}
 use Rattle.walk.proofs.found.Body.+arguments_expression_expression_of.Goals as goal
 
 -- one more argument of the kinds that the callee asks for
-next_argument : (b : Body) (f : Function) (k n : ℕ) (q : Kind) (a : Arguments) (j : ℕ) →
+next_argument : (b : Body) (f : Function) (k n : ℕ) (q : Kind) (a : Option Size) (j : ℕ) →
     Some q ≡ slice_get (parameter_kinds (signature_of f)) n →
     args_from (value_walk b k) (drop n (parameter_kinds (signature_of f))) n a j
     ≡ onward (value_walk b k j) (λ p. args_from (value_walk b k) (drop (n + 1) (parameter_kinds (signature_of f))) (n + 1) (added a n q p.0) p.1)

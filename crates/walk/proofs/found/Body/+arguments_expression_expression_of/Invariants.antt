@@ -2,7 +2,7 @@ use Rattle.std.proofs.Common.{◌≡◌, ◌+◌, ◌-◌, ◌*◌, ◌≤◌, l
 use Rattle.language.specs.Rules.{parameter_kinds}
 use Rattle.walk.specs.Bodies.{signature_of}
 use Rattle.walk.specs.Reads.{value_walk}
-use Rattle.walk.specs.Walk.{args_from, no_arguments}
+use Rattle.walk.specs.Walk.{args_from, no_arguments, needed}
 use Rattle.walk.proofs.found.Body.+arguments_expression_expression_of.Given as goal
 
 abbrev pub decreases-arguments : goal.decreases-arguments
@@ -18,7 +18,7 @@ abbrev pub invariant-arguments-loop-kind : goal.invariant-arguments-loop-kind
 invariant-arguments-loop-kind l =
     (args_from (value_walk l.self l.left) (parameter_kinds (signature_of l.callee)) 0 no_arguments l.at
     ≡ args_from (value_walk l.self l.left) (drop l.i (parameter_kinds (signature_of l.callee))) l.i l.taken l.next)
-    × (l.i + l.at ≤ l.next) × (l.taken.size.height + l.at ≤ l.next) × (l.taken.size.words + l.at ≤ l.next)
+    × (l.i + l.at ≤ l.next) × ((needed l.taken).height + l.at ≤ l.next) × ((needed l.taken).words + l.at ≤ l.next)
     × (l.at ≤ l.self.table.now.nodes → l.next ≤ l.self.table.now.nodes)
 
 abbrev pub decreases-arguments-loop-kind : goal.decreases-arguments-loop-kind
