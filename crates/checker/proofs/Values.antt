@@ -1,6 +1,7 @@
 -- The walk of an expression passes exactly if a well-formed tree stands there.
-use Rattle.std.proofs.Common.{◌≡◌, ℕ, zero, suc, ◌+◌, ◌-◌, ◌<◌, ◌≤◌, max, Bool, true, false, cond, ◌&&◌, List, [], ◌∷◌, ◌++◌, length, Some, None, Ok, Err, Option, sym, refl, ap, ◌∙◌, arith, length-append}
+use Rattle.std.proofs.Common.{◌≡◌, ℕ, zero, suc, ◌+◌, ◌-◌, ◌<◌, ◌≤◌, max, true, cond, ◌&&◌, List, [], ◌∷◌, ◌++◌, length, Some, None, Ok, Err, Option, sym, refl, ap, ◌∙◌, arith, length-append}
 use Rattle.std.proofs.lemmas.Bool.{and_parts}
+use Rattle.std.proofs.lemmas.Option.{cond_some}
 use Rattle.std.specs.Option.{ok_or}
 use Rattle.table.specs.Flow.{onward}
 use Rattle.table.specs.View.{View, node_at}
@@ -55,12 +56,9 @@ pub record StandA (v : View) (e : Env) (k : ℕ) (ks : List Kind) (n : ℕ) (a :
 added_ok : (a : Option Size) (n : ℕ) (q : Kind) (f : Found) (s : Size) → added a n q f ≡ Some s →
     (b : Size) × (a ≡ Some b) × (same_kind q f.kind ≡ true) × (size (max b.height (n + f.height)) (b.words + f.words) ≡ s)
 added_ok None n q f s h = absurd (grind arith)
-added_ok (Some b) n q f s h = let x = shown (same_kind q f.kind) h in (b, refl, x.0, x.1)
-  where
-    shown : (t : Bool) → cond t (Some (size (max b.height (n + f.height)) (b.words + f.words))) None ≡ Some s →
-        (t ≡ true) × (size (max b.height (n + f.height)) (b.words + f.words) ≡ s)
-    shown true g = (refl, grind arith)
-    shown false g = absurd (grind arith)
+added_ok (Some b) n q f s h =
+    let c = cond_some (same_kind q f.kind) (size (max b.height (n + f.height)) (b.words + f.words)) s h in
+    (b, refl, c.0, c.1)
 
 pub args-sound : (v : View) (e : Env) (k : ℕ) → ((i : ℕ) (f : Found) (j : ℕ) → expr_from v e k i ≡ Ok (f, j) → StandsE v e k i f j) →
     (ks : List Kind) (n : ℕ) (a : Option Size) (i : ℕ) (r : Size) (j : ℕ) →

@@ -1,5 +1,5 @@
 -- One step of each walk, at any number of levels, arguments or statements.
-use Rattle.std.proofs.Common.{◌≡◌, ℕ, zero, suc, ◌+◌, ◌-◌, ◌<◌, ◌≤◌, List, [], ◌∷◌, length, take, drop, Some, None, Ok, Err, Option, Result, sym, refl, ap, ◌∙◌, subst, arith}
+use Rattle.std.proofs.Common.{◌≡◌, ℕ, zero, suc, ◌+◌, ◌-◌, ◌<◌, List, [], ◌∷◌, take, drop, Some, None, Ok, Err, Option, Result, sym, refl, ap, ◌∙◌, subst, arith}
 use Rattle.std.specs.List.{slice_get}
 use Rattle.table.specs.Flow.{onward}
 use Rattle.table.specs.Sorts.{expression_in, condition_in, statement_in, block_in}
@@ -21,17 +21,6 @@ nth-take zero i xs h = absurd (omega arith)
 nth-take (suc n) i [] h = refl
 nth-take (suc n) zero (x ∷ xs) h = refl
 nth-take (suc n) (suc i) (x ∷ xs) h = nth-take n i xs (omega arith)
-
-pub nth-take-past : {A : Type 0} (n i : ℕ) (xs : List A) → n ≤ i → slice_get (take n xs) i ≡ None
-nth-take-past zero i xs h = refl
-nth-take-past (suc n) i [] h = refl
-nth-take-past (suc n) zero (x ∷ xs) h = absurd (omega arith)
-nth-take-past (suc n) (suc i) (x ∷ xs) h = nth-take-past n i xs (omega arith)
-
-pub nth-within : {A : Type 0} (xs : List A) (i : ℕ) (x : A) → slice_get xs i ≡ Some x → i < length xs
-nth-within [] i x h = absurd (grind arith)
-nth-within (y ∷ xs) zero x h = omega arith
-nth-within (y ∷ xs) (suc i) x h = let r = nth-within xs i x h in omega arith
 
 module _ (one : ℕ → Answer (Found × ℕ)) where
   pub args_step : (ks : List Kind) (n i : ℕ) (k : Kind) (a : Option Size) (j : ℕ) → slice_get ks i ≡ Some k →

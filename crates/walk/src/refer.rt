@@ -1,9 +1,8 @@
 // What a node may refer to: variables and functions.
 ghost use Rattle.std.specs.Prelude.{◌≡◌};
 ghost use Rattle.std.specs.Option.{ok_or};
-ghost use Rattle.std.specs.List.{slice_get};
 ghost use Rattle.table.specs.Flow.{mapped, passing};
-ghost use Rattle.language.specs.Rules.{slot_kind, called, parameter_kinds};
+ghost use Rattle.language.specs.Rules.{slot_kind, called};
 ghost use Rattle.walk.specs.Bodies.{signature_of, signature_in};
 ghost use Rattle.walk.specs.Reads.{seen};
 ghost use Rattle.walk.specs.Walk.{called_at};
@@ -49,16 +48,5 @@ impl Body<'_> {
         ensures { passing signature_of result ≡ called_at (signature_in (seen self.now)) f at }
     {
         self.called(f).ok_or(CheckFault::Function(at))
-    }
-}
-
-// The kind of parameter i of a function, or none if there is no such parameter.
-pub(crate) fn parameter_kind(callee: &Function, i: u16) -> Option<Kind>
-    ensures { result ≡ slice_get (parameter_kinds (signature_of callee.now)) i }
-{
-    if i < u16::from(callee.parameters) {
-        callee.variable(i)
-    } else {
-        None
     }
 }

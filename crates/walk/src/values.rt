@@ -9,7 +9,6 @@ use crate::fault::CheckFault;
 use crate::found::{Body, Found, Size};
 use crate::measure::{add_argument, leaf, operation_on_one, operation_on_two, value_of_call};
 use crate::operators::format_kind;
-use crate::refer::parameter_kind;
 use table::{Expression, Function};
 
 impl Body<'_> {
@@ -74,12 +73,13 @@ impl Body<'_> {
     {
         let mut taken = Some(Size::default());
         let mut next = at;
-        let mut i = 0;
-        while let Some(kind) = parameter_kind(callee, i) {
+        for i in 0..u16::from(callee.parameters) {
+            let Some(kind) = callee.variable(i) else {
+                break;
+            };
             let (argument, after) = self.expression(next, left)?;
             taken = add_argument(taken, i, kind, argument);
             next = after;
-            i += 1;
         }
         Ok((taken, next))
     }
