@@ -8,7 +8,6 @@ mod fault;
 mod found;
 mod loops;
 mod measure;
-mod opens;
 mod operators;
 mod refer;
 mod statements;

@@ -7,9 +7,8 @@ ghost use Rattle.table.specs.declared.shape.Statement.TheVariants.{Loop as Repea
 
 use crate::fault::CheckFault;
 use crate::found::{Body, Size};
-use crate::loops::Loops;
+use crate::loops::{LoopGuard, Loops};
 use crate::measure::side_by_side;
-use crate::opens::{LoopGuard, push_loop};
 use crate::operators::format_kind;
 use table::{Kind, Statement};
 
@@ -120,7 +119,7 @@ impl Body<'_> {
         if loops.open_count() >= 16 {
             return Err(CheckFault::Loop(at));
         }
-        push_loop(loops, name);
+        loops.push(name);
         let guard = LoopGuard { held: loops };
         let (body, next) = self.block(at + 1, left, guard.held)?;
         let height = body.height;
