@@ -55,9 +55,7 @@ pub(crate) fn bodies(t: &Table) -> Result<(usize, usize), CheckFault>
     let mut words = t.functions;
     let mut next = 0;
     for f in 0..t.functions {
-        let (more, after) = function_body(t, f, words, next)?;
-        words = more;
-        next = after;
+        (words, next) = function_body(t, f, words, next)?;
     }
     Ok((words, next))
 }

@@ -104,9 +104,11 @@ pub(crate) fn topped_value(
     if value.kind != kind {
         return Err(CheckFault::Child(at));
     }
-    let height = value.height;
-    let words = value.words + 1;
-    Ok((Size { height, words }, next))
+    let size = Size {
+        height: value.height,
+        words: value.words,
+    };
+    Ok((size.and_word(), next))
 }
 
 // Argument i of a call, for a parameter of that kind, behind the arguments before it.
@@ -134,8 +136,7 @@ pub(crate) fn called_with(
     ensures { result ≡ onward (fitting at taken) (λ s. Ok (size s.height (s.words + 1), next)) }
 {
     let arguments = taken.ok_or(CheckFault::Child(at))?;
-    let words = arguments.words + 1;
-    Ok((Size { words, ..arguments }, next))
+    Ok((arguments.and_word(), next))
 }
 
 // A call that gives a value, which needs a place even without arguments.
@@ -159,6 +160,20 @@ pub(crate) fn value_of_call(
     Ok((found, next))
 }
 
+impl Size {
+    // The same with a word of the node above.
+    pub(crate) fn and_word(self) -> Size
+        requires { self.words < 65535 }
+        ensures { result ≡ size self.height (self.words + 1) }
+    {
+        Size {
+            words: self.words + 1,
+            ..self
+        }
+    }
+}
+
+// Two parts of a node, side by side.
 pub(crate) fn side_by_side(a: Size, b: Size) -> Size
     requires { a.words + b.words < 65536 }
     ensures { result ≡ beside a b }

@@ -87,9 +87,8 @@ impl Body<'_> {
                 let (test, middle) = self.condition(at + 1, left)?;
                 let (body, behind) = self.block(middle, left, loops)?;
                 let (other, next) = self.block(behind, left, loops)?;
-                let height = test.height.max(body.height.max(other.height));
-                let words = test.words + body.words + other.words + 1;
-                Ok((Size { height, words }, next))
+                let size = side_by_side(test, side_by_side(body, other));
+                Ok((size.and_word(), next))
             }
             Statement::Loop(name) => self.repeat(name, at, left, loops),
             Statement::Break(name) | Statement::Continue(name) => leave_loop(loops, name, at),
@@ -122,9 +121,7 @@ impl Body<'_> {
         loops.push(name);
         let guard = LoopGuard { held: loops };
         let (body, next) = self.block(at + 1, left, guard.held)?;
-        let height = body.height;
-        let words = body.words + 1;
-        Ok((Size { height, words }, next))
+        Ok((body.and_word(), next))
     }
 
     // The block at `at` among the open loops: its height and words, and the next node's place.
