@@ -54,10 +54,10 @@ pub record StandA (v : View) (e : Env) (k : ℕ) (ks : List Kind) (n : ℕ) (a :
   pub deep : levels_a trees ≤ k
 
 added_ok : (a : Option Size) (n : ℕ) (q : Kind) (f : Found) (s : Size) → added a n q f ≡ Some s →
-    (b : Size) × (a ≡ Some b) × (same_kind q f.kind ≡ true) × (size (max b.height (n + f.height)) (b.words + f.words) ≡ s)
+    (b : Size) × (a ≡ Some b) × (same_kind q f.kind ≡ true) × (size (max b.height (n + f.size.height)) (b.words + f.size.words) ≡ s)
 added_ok None n q f s h = absurd (grind arith)
 added_ok (Some b) n q f s h =
-    let c = cond_some (same_kind q f.kind) (size (max b.height (n + f.height)) (b.words + f.words)) s h in
+    let c = cond_some (same_kind q f.kind) (size (max b.height (n + f.size.height)) (b.words + f.size.words)) s h in
     (b, refl, c.0, c.1)
 
 pub args-sound : (v : View) (e : Env) (k : ℕ) → ((i : ℕ) (f : Found) (j : ℕ) → expr_from v e k i ≡ Ok (f, j) → StandsE v e k i f j) →
@@ -83,7 +83,7 @@ args-sound v e k ih (q ∷ ks) n a i r j h =
       before = b.1;
       is =
           s.is ∙ ap (λ y. taken y (n + 1) s.trees) (sym b.3)
-          ∙ ap (λ y. size (max (max b.0.height (n + y.height)) (height_a (n + 1) s.trees)) (b.0.words + y.words + words_a s.trees)) x.is
+          ∙ ap (λ y. size (max (max b.0.height (n + y.size.height)) (height_a (n + 1) s.trees)) (b.0.words + y.size.words + words_a s.trees)) x.is
           ∙ ap (λ y. size y (b.0.words + words_e x.tree + words_a s.trees)) hh
           ∙ ap (λ y. size (max b.0.height (height_a n (more x.tree s.trees))) y) ww;
       deep = omega (arith, x.deep, s.deep);
@@ -143,16 +143,16 @@ module _ (v : View) (e : Env) (k : ℕ) (ih : (i : ℕ) (f : Found) (j : ℕ) �
       let g = o.2 in
       record { tree = variable i s x o.0; spells = (refl, c.there, c.shape, tt); ends = grind arith; fine = ok_or_ok (slot_kind e.own e.main s x) (NoVariable i) o.0 o.1; is = grind arith; deep = omega arith }
   at-sound (OfOne u) c h =
-      let o = onward_ok (expr_from v e k (i + 1)) (λ p. judged i (same_kind (operand_kind u) p.0.kind) (found (unary_kind u) p.0.height (p.0.words + unary_words u), p.1)) (f, j) h in
+      let o = onward_ok (expr_from v e k (i + 1)) (λ p. judged i (same_kind (operand_kind u) p.0.kind) (found (unary_kind u) p.0.size.height (p.0.size.words + unary_words u), p.1)) (f, j) h in
       let a = ih (i + 1) o.0.0 o.0.1 o.1 in
-      let g = judged_ok i (same_kind (operand_kind u) o.0.0.kind) (found (unary_kind u) o.0.0.height (o.0.0.words + unary_words u), o.0.1) (f, j) o.2 in
+      let g = judged_ok i (same_kind (operand_kind u) o.0.0.kind) (found (unary_kind u) o.0.0.size.height (o.0.0.size.words + unary_words u), o.0.1) (f, j) o.2 in
       let z : o.0.1 ≡ j = ap (λ y. y.1) g.1 in
       record {
         tree = unary i u a.tree;
         spells = (refl, c.there, c.shape, a.spells);
         ends = omega (arith, a.ends, z);
         fine = (a.fine, sym (ap (λ y. y.kind) a.is) ∙ sym (same_kind_lem (operand_kind u) o.0.0.kind g.0));
-        is = sym (ap (λ y. y.0) g.1) ∙ ap (λ y. found (unary_kind u) y.height (y.words + unary_words u)) a.is;
+        is = sym (ap (λ y. y.0) g.1) ∙ ap (λ y. found (unary_kind u) y.size.height (y.size.words + unary_words u)) a.is;
         deep = omega (arith, a.deep);
       }
   at-sound (OfTwo b) c h =
@@ -217,7 +217,7 @@ mutual
       let y = expr_complete a v e (k - 1) (i + 1) f.0 (omega arith) h.3 in
       let s : same_kind (operand_kind u) (kind_of a) ≡ true = ap (λ q. same_kind (operand_kind u) q) f.1 ∙ kind_same (operand_kind u) in
       let z : i + 1 + length (list_e a) ≡ i + suc (length (list_e a)) = omega arith in
-      x ∙ ap (λ r. onward r (λ w. judged i (same_kind (operand_kind u) w.0.kind) (found (unary_kind u) w.0.height (w.0.words + unary_words u), w.1))) y
+      x ∙ ap (λ r. onward r (λ w. judged i (same_kind (operand_kind u) w.0.kind) (found (unary_kind u) w.0.size.height (w.0.size.words + unary_words u), w.1))) y
       ∙ ap (λ b. judged i b (found_of (unary p u a), i + 1 + length (list_e a))) s ∙ ap (λ w. Ok (found_of (unary p u a), w)) z
   expr_complete (binary p b q a c) v e k i f d h =
       let x = entered v e k i p (OfTwo b) (list_e a ++ list_e c) (omega arith) h in

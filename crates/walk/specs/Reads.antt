@@ -38,7 +38,7 @@ abbrev pub Spans : Body → ℕ → Size → ℕ → Type 0
 Spans b i s j = (i < j) × (s.height + i ≤ j) × (s.words + i ≤ j) × (j ≤ b.table.now.nodes)
 
 abbrev pub FoundSpans : Body → ℕ → Answer (Found × ℕ) → Type 0
-FoundSpans b i r = IfOk r (λ p. Spans b i (size p.0.height p.0.words) p.1)
+FoundSpans b i r = IfOk r (λ p. Spans b i p.0.size p.1)
 
 abbrev pub SizeSpans : Body → ℕ → Answer (Size × ℕ) → Type 0
 SizeSpans b i r = IfOk r (λ p. Spans b i p.0 p.1)

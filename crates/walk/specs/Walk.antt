@@ -81,8 +81,11 @@ operates ByteOr k = not (is_int k)
 abbrev pub size : ℕ → ℕ → Size
 size h w = record { height = h; words = w }
 
+abbrev pub sized : Kind → Size → Found
+sized k s = record { kind = k; size = s }
+
 abbrev pub found : Kind → ℕ → ℕ → Found
-found k h w = record { kind = k; height = h; words = w }
+found k h w = sized k (size h w)
 
 -- side by side: the larger height
 abbrev pub beside : Size → Size → Size
@@ -90,14 +93,11 @@ beside a b = size (max a.height b.height) (a.words + b.words)
 
 -- left and right operand: the right one stands on the left one's value; the operator adds a word
 abbrev pub stacked : Found → Found → Size
-stacked a b = size (max a.height (1 + b.height)) (a.words + b.words + 1)
-
-abbrev pub sized : Kind → Size → Found
-sized k s = found k s.height s.words
+stacked a b = size (max a.size.height (1 + b.size.height)) (a.size.words + b.size.words + 1)
 
 -- an expression's size with a word of the node above it
 abbrev pub topped : Found → Size
-topped a = size a.height (a.words + 1)
+topped a = size a.size.height (a.size.words + 1)
 
 -- Arguments: the size of those so far, or none if some argument does not have its parameter's kind.
 abbrev pub no_arguments : Option Size
@@ -106,7 +106,7 @@ no_arguments = Some (size 0 0)
 -- argument n of kind k, behind the others
 abbrev pub added : Option Size → ℕ → Kind → Found → Option Size
 added None n k f = None
-added (Some a) n k f = cond (same_kind k f.kind) (Some (size (max a.height (n + f.height)) (a.words + f.words))) None
+added (Some a) n k f = cond (same_kind k f.kind) (Some (size (max a.height (n + f.size.height)) (a.words + f.size.words))) None
 
 abbrev pub needed : Option Size → Size
 needed a = unwrap_or a (size 0 0)
@@ -141,7 +141,7 @@ expr_at e one i (Constant k n) = Ok (found k 1 1, i + 1)
 expr_at e one i (Slot s x) = onward (ok_or (slot_kind e.own e.main s x) (Variable i)) (λ k. Ok (found k 1 1, i + 1))
 expr_at e one i (OfOne u) =
     onward (one (i + 1)) (λ p.
-    judged i (same_kind (operand_kind u) p.0.kind) (found (unary_kind u) p.0.height (p.0.words + unary_words u), p.1))
+    judged i (same_kind (operand_kind u) p.0.kind) (found (unary_kind u) p.0.size.height (p.0.size.words + unary_words u), p.1))
 expr_at e one i (OfTwo b) =
     onward (one (i + 1)) (λ p. onward (one p.1) (λ q.
     judged i (same_kind p.0.kind q.0.kind && operates b p.0.kind) (sized p.0.kind (stacked p.0 q.0), q.1)))

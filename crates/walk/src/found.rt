@@ -1,19 +1,18 @@
 // What a walk goes over, and what it finds of a subtree.
 use table::{Function, Kind, Table};
 
-// Of an expression: its kind, its height, and its words of stack code.
-#[derive(Clone, Copy)]
-pub struct Found {
-    pub kind: Kind,
-    pub height: u16,
-    pub words: u16,
-}
-
-// Of a condition, a statement, a block or the arguments of a call.
+// Of a condition, a statement, a block or the arguments of a call: its height, and its words of stack code.
 #[derive(Clone, Copy, Default)]
 pub struct Size {
     pub height: u16,
     pub words: u16,
+}
+
+// Of an expression: its kind too.
+#[derive(Clone, Copy)]
+pub struct Found {
+    pub kind: Kind,
+    pub size: Size,
 }
 
 // The function whose body is walked, and main where that is another.

@@ -15,8 +15,10 @@ pub(crate) fn leaf(kind: Kind) -> Found
 {
     Found {
         kind,
-        height: 1,
-        words: 1,
+        size: Size {
+            height: 1,
+            words: 1,
+        },
     }
 }
 
@@ -27,28 +29,30 @@ pub(crate) fn operation_on_one(
     next: usize,
     at: usize,
 ) -> Result<(Found, usize), CheckFault>
-    requires { a.words < 65535 }
-    ensures { result ≡ judged at (same_kind (operand_kind operator) a.kind) (found (unary_kind operator) a.height (a.words + unary_words operator), next) }
+    requires { a.size.words < 65535 }
+    ensures { result ≡ judged at (same_kind (operand_kind operator) a.kind) (found (unary_kind operator) a.size.height (a.size.words + unary_words operator), next) }
 {
     if a.kind != operand_kind(operator) {
         return Err(CheckFault::Child(at));
     }
     let found = Found {
         kind: unary_kind(operator),
-        height: a.height,
-        words: a.words + unary_words(operator),
+        size: Size {
+            words: a.size.words + unary_words(operator),
+            ..a.size
+        },
     };
     Ok((found, next))
 }
 
 // The right operand stands on the left one's value; the operator adds a word.
 fn stack(a: Found, b: Found) -> Size
-    requires { (b.height < 65535) × (a.words + b.words < 65535) }
+    requires { (b.size.height < 65535) × (a.size.words + b.size.words < 65535) }
     ensures { result ≡ stacked a b }
 {
     Size {
-        height: a.height.max(1 + b.height),
-        words: a.words + b.words + 1,
+        height: a.size.height.max(1 + b.size.height),
+        words: a.size.words + b.size.words + 1,
     }
 }
 
@@ -60,17 +64,15 @@ pub(crate) fn operation_on_two(
     next: usize,
     at: usize,
 ) -> Result<(Found, usize), CheckFault>
-    requires { (b.height < 65535) × (a.words + b.words < 65535) }
+    requires { (b.size.height < 65535) × (a.size.words + b.size.words < 65535) }
     ensures { result ≡ judged at (same_kind a.kind b.kind && operates operator a.kind) (sized a.kind (stacked a b), next) }
 {
     if a.kind != b.kind || !takes_kind(operator, a.kind) {
         return Err(CheckFault::Child(at));
     }
-    let size = stack(a, b);
     let found = Found {
         kind: a.kind,
-        height: size.height,
-        words: size.words,
+        size: stack(a, b),
     };
     Ok((found, next))
 }
@@ -82,7 +84,7 @@ pub(crate) fn comparison(
     next: usize,
     at: usize,
 ) -> Result<(Size, usize), CheckFault>
-    requires { (b.height < 65535) × (a.words + b.words < 65535) }
+    requires { (b.size.height < 65535) × (a.size.words + b.size.words < 65535) }
     ensures { result ≡ judged at (same_kind a.kind b.kind) (stacked a b, next) }
 {
     if a.kind != b.kind {
@@ -98,22 +100,18 @@ pub(crate) fn topped_value(
     next: usize,
     at: usize,
 ) -> Result<(Size, usize), CheckFault>
-    requires { value.words < 65535 }
+    requires { value.size.words < 65535 }
     ensures { result ≡ judged at (same_kind kind value.kind) (topped value, next) }
 {
     if value.kind != kind {
         return Err(CheckFault::Child(at));
     }
-    let size = Size {
-        height: value.height,
-        words: value.words,
-    };
-    Ok((size.and_word(), next))
+    Ok((value.size.and_word(), next))
 }
 
 // Argument i of a call, for a parameter of that kind, behind the arguments before it.
 pub(crate) fn add_argument(taken: Option<Size>, i: u16, kind: Kind, argument: Found) -> Option<Size>
-    requires { (i + argument.height < 65536) × ((needed taken).words + argument.words < 65536) }
+    requires { (i + argument.size.height < 65536) × ((needed taken).words + argument.size.words < 65536) }
     ensures { result ≡ added taken i kind argument }
 {
     let before = taken?;
@@ -121,8 +119,8 @@ pub(crate) fn add_argument(taken: Option<Size>, i: u16, kind: Kind, argument: Fo
         return None;
     }
     Some(Size {
-        height: before.height.max(i + argument.height),
-        words: before.words + argument.words,
+        height: before.height.max(i + argument.size.height),
+        words: before.words + argument.size.words,
     })
 }
 
@@ -150,14 +148,11 @@ pub(crate) fn value_of_call(
     ensures { result ≡ onward (fitting at taken) (λ s. Ok (found kind (max 1 s.height) (s.words + 1), next)) }
 {
     let arguments = taken.ok_or(CheckFault::Child(at))?;
-    let height = arguments.height.max(1);
-    let words = arguments.words + 1;
-    let found = Found {
-        kind,
-        height,
-        words,
+    let size = Size {
+        height: arguments.height.max(1),
+        words: arguments.words + 1,
     };
-    Ok((found, next))
+    Ok((Found { kind, size }, next))
 }
 
 impl Size {
