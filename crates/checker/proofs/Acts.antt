@@ -11,14 +11,14 @@ use Rattle.table.specs.declared.shape.Shape.TheVariants.{Statement as Act, Block
 use Rattle.table.proofs.Round.{decoded}
 use Rattle.language.specs.Tree.{Stmt, Block, Stmts, skip, assign, perform, if, if_else, loop, break, continue, exit, return, write, block, done, next}
 use Rattle.language.specs.Listing.{count, list_c, list_s, list_b, list_ss}
-use Rattle.language.specs.Measures.{format_kind, levels_s, levels_b, levels_ss, height_a, height_c, height_s, height_b, height_ss, words_a, words_c, words_s, words_b, words_ss}
+use Rattle.language.specs.Measures.{format_kind, levels_s, levels_b, levels_ss, height_c, height_s, height_b, height_ss, words_c, words_s, words_b, words_ss}
 use Rattle.language.specs.Rules.{Env, slot_kind, called, parameter_kinds, is_open, FineS, FineB, FineSs}
-use Rattle.walk.specs.Walk.{Answer, arrived, as_act, as_block, called_at, no_result, judged, same_kind, size, beside, topped, no_arguments, args_from, expr_from, cond_from, items_from, opens, leaves, exits, stmt_at, stmt_from, block_from}
+use Rattle.walk.specs.Walk.{Answer, arrived, as_act, as_block, called_at, no_result, judged, same_kind, size, beside, topped, no_arguments, args_from, fitting, expr_from, cond_from, items_from, opens, leaves, exits, stmt_at, stmt_from, block_from}
 use Rattle.walk.specs.declared.fault.CheckFault.TheVariants.{Nesting, Variable as NoVariable, Function as NoFunction, Loop as NoLoop, Exit as NoExit}
 use Rattle.walk.specs.declared.found.Size.{Size}
 use Rattle.checker.specs.Spells.{Spells}
 use Rattle.checker.proofs.Spelling.{onward_ok, ok_or_ok, judged_ok, same_kind_lem, Came, came_act, came_block, spells-on}
-use Rattle.checker.proofs.Values.{args-sound, expr_sound}
+use Rattle.checker.proofs.Values.{all-sound, expr_sound}
 use Rattle.checker.proofs.Tests.{size_c, cond_sound}
 
 abbrev pub size_s : Stmt → Size
@@ -132,20 +132,18 @@ module _ (v : View) (small : Small v) (e : Env) (k : ℕ) (ns : List ℕ) (ih : 
         deep = omega (arith, a.deep);
       }
   stmt_at_lem (Perform m) c h =
-      let o = onward_ok (called_at e.functions m i) (λ g. onward (no_result i g.result) (λ _. onward (args_from (expr_from v e k) (parameter_kinds g) 0 no_arguments (i + 1)) (λ r. judged i r.0.fit (size r.0.size.height (r.0.size.words + 1), r.1)))) (s, j) h in
-      let u = onward_ok (no_result i o.0.result) (λ _. onward (args_from (expr_from v e k) (parameter_kinds o.0) 0 no_arguments (i + 1)) (λ r. judged i r.0.fit (size r.0.size.height (r.0.size.words + 1), r.1))) (s, j) o.2 in
-      let w = onward_ok (args_from (expr_from v e k) (parameter_kinds o.0) 0 no_arguments (i + 1)) (λ r. judged i r.0.fit (size r.0.size.height (r.0.size.words + 1), r.1)) (s, j) u.2 in
-      let g = judged_ok i w.0.0.fit (size w.0.0.size.height (w.0.0.size.words + 1), w.0.1) (s, j) w.2 in
-      let a = args-sound v e k (expr_sound v e k) (parameter_kinds o.0) 0 no_arguments (i + 1) w.0.0 w.0.1 g.0 w.1 in
-      let z : w.0.1 ≡ j = ap (λ y. y.1) g.1 in
-      let hh : w.0.0.size.height ≡ height_a 0 a.trees = omega (arith, a.height) in
-      let ww : w.0.0.size.words + 1 ≡ words_a a.trees + 1 = omega (arith, a.words) in
+      let o = onward_ok (called_at e.functions m i) (λ g. onward (no_result i g.result) (λ _. onward (args_from (expr_from v e k) (parameter_kinds g) 0 no_arguments (i + 1)) (λ r. onward (fitting i r.0) (λ z. Ok (size z.height (z.words + 1), r.1))))) (s, j) h in
+      let u = onward_ok (no_result i o.0.result) (λ _. onward (args_from (expr_from v e k) (parameter_kinds o.0) 0 no_arguments (i + 1)) (λ r. onward (fitting i r.0) (λ z. Ok (size z.height (z.words + 1), r.1)))) (s, j) o.2 in
+      let w = onward_ok (args_from (expr_from v e k) (parameter_kinds o.0) 0 no_arguments (i + 1)) (λ r. onward (fitting i r.0) (λ z. Ok (size z.height (z.words + 1), r.1))) (s, j) u.2 in
+      let g = onward_ok (fitting i w.0.0) (λ z. Ok (size z.height (z.words + 1), w.0.1)) (s, j) w.2 in
+      let a = all-sound v e k (expr_sound v e k) (parameter_kinds o.0) (i + 1) i w.0.0 g.0 w.0.1 w.1 g.1 in
+      let d : ◌≡◌ {A = Size × ℕ} (size g.0.height (g.0.words + 1), w.0.1) (s, j) = cc (g.2) in
       record {
         tree = perform i m a.trees;
         spells = (refl, c.there, c.shape, a.spells);
-        ends = omega (arith, a.ends, z);
+        ends = omega (arith, a.ends, ap (λ y. y.1) d);
         fine = (o.0, ok_or_ok (called e.functions m) (NoFunction i) o.0 o.1, no_result_ok i o.0.result u.0 u.1, a.fine);
-        is = sym (ap (λ y. y.0) g.1) ∙ ap (λ y. size y (w.0.0.size.words + 1)) hh ∙ ap (λ y. size (height_a 0 a.trees) y) ww;
+        is = sym (ap (λ y. y.0) d) ∙ ap (λ y. size y.height (y.words + 1)) a.is;
         deep = omega (arith, a.deep);
       }
   stmt_at_lem If c h =

@@ -12,7 +12,7 @@ use Rattle.language.specs.Tree.{Expr, Stmt, Block, Stmts, skip, assign, perform,
 use Rattle.language.specs.Listing.{Placed, count, list_e, list_a, list_c, list_s, list_b, list_ss}
 use Rattle.language.specs.Measures.{kind_of, format_kind, levels_e, levels_s, levels_b, levels_ss, height_a, height_s, height_ss, words_a, words_s, words_ss}
 use Rattle.language.specs.Rules.{Env, FineE, parameter_kinds, FineS, FineB, FineSs}
-use Rattle.walk.specs.Walk.{as_act, as_block, no_result, judged, same_kind, size, beside, topped, no_arguments, args_from, expr_from, cond_from, items_from, exits, stmt_at, stmt_from, block_from}
+use Rattle.walk.specs.Walk.{as_act, as_block, no_result, judged, same_kind, size, beside, topped, no_arguments, args_from, fitting, expr_from, cond_from, items_from, exits, stmt_at, stmt_from, block_from}
 use Rattle.walk.specs.declared.fault.CheckFault.TheVariants.{Variable as NoVariable, Function as NoFunction, Loop as NoLoop, Exit as NoExit}
 use Rattle.walk.specs.declared.found.Size.{Size}
 use Rattle.walk.proofs.Steps.{stmt_step, block_step}
@@ -54,14 +54,14 @@ module _ (v : View) (e : Env) where
         ∙ ap (λ r. onward (ok_or r (NoVariable i)) (λ n. onward (expr_from v e (k - 1) (i + 1)) (λ p. judged i (same_kind n p.0.kind) (topped p.0, p.1)))) f.0
         ∙ one_value (k - 1) i q a f.1 (omega arith) f.2 h.3
     stmt_complete (perform p m xs) k ns i f d h =
-        let y = args-complete xs v e (k - 1) (parameter_kinds f.0) 0 no_arguments (i + 1) f.3 (omega arith) h.3 in
+        let y = args-complete xs v e (k - 1) (parameter_kinds f.0) 0 (size 0 0) (i + 1) f.3 (omega arith) h.3 in
         let hh : max 0 (height_a 0 xs) ≡ height_a 0 xs = omega arith in
         let ww : 0 + words_a xs + 1 ≡ words_a xs + 1 = omega arith in
         let w : i + 1 + length (list_a xs) ≡ i + suc (length (list_a xs)) = omega arith in
         stmt_entered k ns i p (Perform m) (list_a xs) (omega arith) h
-        ∙ ap (λ r. onward (ok_or r (NoFunction i)) (λ g. onward (no_result i g.result) (λ _. onward (args_from (expr_from v e (k - 1)) (parameter_kinds g) 0 no_arguments (i + 1)) (λ r. judged i r.0.fit (size r.0.size.height (r.0.size.words + 1), r.1))))) f.1
-        ∙ ap (λ r. onward (no_result i r) (λ _. onward (args_from (expr_from v e (k - 1)) (parameter_kinds f.0) 0 no_arguments (i + 1)) (λ r. judged i r.0.fit (size r.0.size.height (r.0.size.words + 1), r.1)))) f.2
-        ∙ ap (λ r. onward r (λ r. judged i r.0.fit (size r.0.size.height (r.0.size.words + 1), r.1))) y
+        ∙ ap (λ r. onward (ok_or r (NoFunction i)) (λ g. onward (no_result i g.result) (λ _. onward (args_from (expr_from v e (k - 1)) (parameter_kinds g) 0 no_arguments (i + 1)) (λ r. onward (fitting i r.0) (λ z. Ok (size z.height (z.words + 1), r.1)))))) f.1
+        ∙ ap (λ r. onward (no_result i r) (λ _. onward (args_from (expr_from v e (k - 1)) (parameter_kinds f.0) 0 no_arguments (i + 1)) (λ r. onward (fitting i r.0) (λ z. Ok (size z.height (z.words + 1), r.1))))) f.2
+        ∙ ap (λ r. onward r (λ r. onward (fitting i r.0) (λ z. Ok (size z.height (z.words + 1), r.1)))) y
         ∙ ap (λ n. Ok (size n (0 + words_a xs + 1), i + 1 + length (list_a xs))) hh
         ∙ ap (λ n. Ok (size (height_a 0 xs) n, i + 1 + length (list_a xs))) ww
         ∙ ap (λ n. Ok (size_s (perform p m xs), n)) w

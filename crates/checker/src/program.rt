@@ -7,6 +7,8 @@ use walk::Passed;
 
 // A table that passes, the first `size` bytes of the room, with what the check told of it. No program is held
 // that does not pass: the type says so.
+// An array with its length beside it: a vector of that capacity is no plainer, since taking a table into it answers an
+// error that cannot come for one that passes, and blanks all 24,771 bytes before.
 #[derive(Drop)]
 pub struct Program {
     pub(crate) room: [u8; 24771],

@@ -3,7 +3,7 @@ use Rattle.std.proofs.Common.{◌≡◌, ℕ, zero, suc, ◌+◌, ◌-◌, ◌*�
 use Rattle.std.specs.List.{flat_map, AllByRecursion, slice_get, range_with_len}
 use Rattle.std.proofs.lemmas.List.{length-append, get_or_append_left, get_or-append_right}
 use Rattle.std.proofs.lemmas.List.FromFn.{length-range_with_len, get_or-range_with_len}
-use Rattle.std.proofs.lemmas.Option.{slice_get-get_or}
+use Rattle.std.proofs.lemmas.Option.{slice_get-get_or, slice_get_within}
 use Rattle.std.proofs.ByRecursion.{All-get_or}
 
 -- from place q on stand the first n bytes of xs
@@ -15,11 +15,6 @@ at_each bs q n xs h j l =
     let e : get_or (range_with_len 0 n) j 0 ≡ j = omega (arith, get_or-range_with_len 0 n j 0 l) in
     rw e at (All-get_or (λ j. get_or bs (q + j) 0 ≡ get_or xs j 0) (range_with_len 0 n) j 0 (omega (arith, length-range_with_len 0 n)) h)
 
-pub nth-within : {X : Type 0} (xs : List X) (i : ℕ) (x : X) → slice_get xs i ≡ Some x → i < length xs
-nth-within [] i x h = absurd (grind arith)
-nth-within (y ∷ ys) zero x h = omega arith
-nth-within (y ∷ ys) (suc i) x h = omega (arith, nth-within ys i x h)
-
 pub nth_none : {X : Type 0} (xs : List X) (i : ℕ) → slice_get xs i ≡ None → length xs ≤ i
 nth_none [] i h = omega arith
 nth_none (y ∷ ys) zero h = absurd (grind arith)
@@ -27,7 +22,7 @@ nth_none (y ∷ ys) (suc i) h = omega (arith, nth_none ys i h)
 
 pub all-nth : {X : Type 0} (P : X → Type 0) (xs : List X) (i : ℕ) (x : X) → AllByRecursion P xs → slice_get xs i ≡ Some x → P x
 all-nth P xs i x a h =
-    let l = nth-within xs i x h in
+    let l = slice_get_within xs i x h in
     let e : get_or xs i x ≡ x = cc (slice_get-get_or xs i x l) in
     rw e at (All-get_or P xs i x l a)
 

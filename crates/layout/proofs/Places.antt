@@ -2,12 +2,13 @@
 use Rattle.std.proofs.Common.{◌≡◌, ℕ, ◌+◌, ◌-◌, ◌*◌, ◌<◌, ◌++◌, length, get_or, Some, refl, ◌∙◌, arith}
 use Rattle.std.specs.List.{flat_map, slice_get}
 use Rattle.std.proofs.lemmas.List.{length-append, length-map, get_or_append_left, get_or-append_right}
+use Rattle.std.proofs.lemmas.Option.{slice_get_within}
 use Rattle.table.specs.Fields.{byte_at}
 use Rattle.language.specs.Tree.{Signature, Program}
 use Rattle.language.specs.Listing.{Placed, list_p}
 use Rattle.language.specs.Rules.{signatures}
 use Rattle.language.specs.Layout.{layout, header_bytes, signature_bytes, placed_bytes}
-use Rattle.layout.proofs.Pieces.{length-joined, get_or-joined, nth-within}
+use Rattle.layout.proofs.Pieces.{length-joined, get_or-joined}
 
 pub length-signatures : (P : Program) → length (signatures P) ≡ length P
 length-signatures P = length-map P (λ f. f.signature)
@@ -41,7 +42,7 @@ after P p q e =
 pub record_byte : (P : Program) (f j p : ℕ) (s : Signature) → slice_get (signatures P) f ≡ Some s → j < 6 → p ≡ 3 + 6 * f + j →
     byte_at (layout P) p ≡ get_or (signature_bytes s) j 0
 record_byte P f j p s h l e =
-    let w = nth-within (signatures P) f s h in
+    let w = slice_get_within (signatures P) f s h in
     after P p (6 * f + j) (omega arith)
     ∙ get_or_append_left (flat_map signature_bytes (signatures P)) (flat_map placed_bytes (list_p P)) 0 (6 * f + j)
     (omega (arith, length_records P, length-signatures P))

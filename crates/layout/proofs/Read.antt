@@ -3,6 +3,7 @@ use Rattle.std.proofs.Common.{◌≡◌, ℕ, zero, suc, ◌+◌, ◌*◌, ◌<�
 use Rattle.std.specs.List.{slice_get}
 use Rattle.std.proofs.lemmas.Bool.{ne_eqb, lt-ltb, le-ltb}
 use Rattle.std.proofs.lemmas.Bool.Decides.{nat_tests}
+use Rattle.std.proofs.lemmas.Option.{slice_get_within}
 use Rattle.table.specs.Fields.{header_of, first_broken, function_at, record_place, record_holds}
 use Rattle.table.specs.Shapes.{node_of}
 use Rattle.table.specs.View.{node_at}
@@ -13,7 +14,7 @@ use Rattle.language.specs.Rules.{FineSignature, signatures}
 use Rattle.language.specs.Layout.{layout, kind_bits}
 use Rattle.walk.specs.Bodies.{signature_in, view_of}
 use Rattle.layout.specs.Stored.{Plain, Limits, counts_of, LayoutsRead}
-use Rattle.layout.proofs.Pieces.{nth-within, nth_none, all-nth}
+use Rattle.layout.proofs.Pieces.{nth_none, all-nth}
 use Rattle.layout.proofs.KindBits.{kinds-read, kinds-unused}
 use Rattle.layout.proofs.Places.{length-signatures, length-layout, record_byte, node-byte}
 use Rattle.layout.proofs.Headers.{header-there}
@@ -53,7 +54,7 @@ module _ (P : Program) (l : Limits P) where
   read-signature : (f : ℕ) (o : Option Signature) → slice_get (signatures P) f ≡ o → signature_in (view_of (layout P) (counts_of P)) f ≡ o
   read-signature f None h = rw (le-ltb f (length P) (omega (arith, nth_none (signatures P) f h, length-signatures P)))
   read-signature f (Some s) h =
-      rw (lt-ltb f (length P) (omega (arith, nth-within (signatures P) f s h, length-signatures P)), function-at f s h)
+      rw (lt-ltb f (length P) (omega (arith, slice_get_within (signatures P) f s h, length-signatures P)), function-at f s h)
       (rw (kinds-read s.variables (all-nth FineSignature (signatures P) f s l.fine h).short))
 
   read-header : header_of (layout P) ≡ Ok (counts_of P)

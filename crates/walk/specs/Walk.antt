@@ -1,9 +1,10 @@
 -- The walk over the nodes in preorder, by the levels of nesting that are left. Each rule is applied where it is
 -- reached; a walk of a subtree answers what it found and the next node's place, or the first rule broken.
-use Rattle.std.specs.Prelude.{ℕ, zero, suc, ◌+◌, max, Bool, true, false, cond, not, ◌&&◌, List, [], ◌∷◌, length, Some, None, Ok, Err, Option, Result, nat_lt}
-use Rattle.std.specs.Option.{ok_or}
+use Rattle.std.specs.Prelude.{◌≡◌, ℕ, zero, suc, ◌+◌, max, Bool, true, false, cond, not, ◌&&◌, List, [], ◌∷◌, length, Some, None, Ok, Err, Option, Result, nat_lt}
+use Rattle.std.specs.Option.{ok_or, unwrap_or}
 use Rattle.table.specs.Flow.{onward}
 use Rattle.table.specs.Shapes.{shape_of}
+use Rattle.table.specs.Sorts.{expression_in, condition_in, statement_in, block_in}
 use Rattle.table.specs.View.{View, node_at}
 use Rattle.table.specs.declared.shape.Kind.{Kind}
 use Rattle.table.specs.declared.shape.Kind.TheVariants.{Int, Byte}
@@ -16,7 +17,7 @@ use Rattle.table.specs.declared.shape.Condition.TheVariants.{Compare, Not, Join,
 use Rattle.table.specs.declared.shape.Statement.{Statement}
 use Rattle.table.specs.declared.shape.Statement.TheVariants.{Skip, Assign, Perform, If, IfElse, Loop as Repeat, Break, Continue, Exit as Leave, Return, Write}
 use Rattle.table.specs.declared.shape.Shape.{Shape}
-use Rattle.table.specs.declared.shape.Shape.TheVariants.{Expression as Value, Condition as Test, Statement as Act, Block}
+use Rattle.table.specs.declared.sort.WrongSort.{WrongSort}
 use Rattle.language.specs.Tree.{Signature}
 use Rattle.language.specs.Measures.{format_kind, operand_kind, unary_kind, unary_words}
 use Rattle.language.specs.Rules.{Env, slot_kind, called, parameter_kinds, is_open}
@@ -24,7 +25,6 @@ use Rattle.walk.specs.declared.fault.CheckFault.{CheckFault}
 use Rattle.walk.specs.declared.fault.CheckFault.TheVariants.{NoNode, Nesting, Field, Sort, Variable, Child, Function, Loop, Exit}
 use Rattle.walk.specs.declared.found.Found.{Found}
 use Rattle.walk.specs.declared.found.Size.{Size}
-use Rattle.walk.specs.declared.found.Arguments.{Arguments}
 
 abbrev pub Answer : Type 0 → Type 0
 Answer A = Result A CheckFault
@@ -37,29 +37,26 @@ arrived v k i =
     (Err (NoNode i))
 
 -- It is of the sort that is asked for.
+abbrev pub sorted_at : {A : Type 0} → ℕ → Result A WrongSort → Answer A
+sorted_at i (Ok s) = Ok s
+sorted_at i (Err e) = Err (Sort i)
+
+-- what arrival found, taken for a sort by a conversion; a refusal is final
+abbrev pub TakenFor : {A : Type 0} → (Shape → Result A WrongSort → Type 0) → ℕ → Answer Shape → Answer A → Type 0
+TakenFor gives i (Err e) r = r ≡ Err e
+TakenFor {A} gives i (Ok s) r = (w : Result A WrongSort) × gives s w × (r ≡ sorted_at i w)
+
 abbrev pub as_value : ℕ → Shape → Answer Expression
-as_value i (Value s) = Ok s
-as_value i (Test s) = Err (Sort i)
-as_value i (Act s) = Err (Sort i)
-as_value i (Block n) = Err (Sort i)
+as_value i s = sorted_at i (expression_in s)
 
 abbrev pub as_test : ℕ → Shape → Answer Condition
-as_test i (Value s) = Err (Sort i)
-as_test i (Test s) = Ok s
-as_test i (Act s) = Err (Sort i)
-as_test i (Block n) = Err (Sort i)
+as_test i s = sorted_at i (condition_in s)
 
 abbrev pub as_act : ℕ → Shape → Answer Statement
-as_act i (Value s) = Err (Sort i)
-as_act i (Test s) = Err (Sort i)
-as_act i (Act s) = Ok s
-as_act i (Block n) = Err (Sort i)
+as_act i s = sorted_at i (statement_in s)
 
 abbrev pub as_block : ℕ → Shape → Answer ℕ
-as_block i (Value s) = Err (Sort i)
-as_block i (Test s) = Err (Sort i)
-as_block i (Act s) = Err (Sort i)
-as_block i (Block n) = Ok n
+as_block i s = sorted_at i (block_in s)
 
 -- Kinds.
 abbrev pub is_int : Kind → Bool
@@ -84,8 +81,11 @@ operates ByteOr k = not (is_int k)
 abbrev pub size : ℕ → ℕ → Size
 size h w = record { height = h; words = w }
 
+abbrev pub sized : Kind → Size → Found
+sized k s = record { kind = k; size = s }
+
 abbrev pub found : Kind → ℕ → ℕ → Found
-found k h w = record { kind = k; height = h; words = w }
+found k h w = sized k (size h w)
 
 -- side by side: the larger height
 abbrev pub beside : Size → Size → Size
@@ -93,27 +93,32 @@ beside a b = size (max a.height b.height) (a.words + b.words)
 
 -- left and right operand: the right one stands on the left one's value; the operator adds a word
 abbrev pub stacked : Found → Found → Size
-stacked a b = size (max a.height (1 + b.height)) (a.words + b.words + 1)
-
-abbrev pub sized : Kind → Size → Found
-sized k s = found k s.height s.words
+stacked a b = size (max a.size.height (1 + b.size.height)) (a.size.words + b.size.words + 1)
 
 -- an expression's size with a word of the node above it
 abbrev pub topped : Found → Size
-topped a = size a.height (a.words + 1)
+topped a = size a.size.height (a.size.words + 1)
 
--- Arguments: argument n of kind k, behind the others.
-abbrev pub added : Arguments → ℕ → Kind → Found → Arguments
-added a n k f =
-    record { fit = a.fit && same_kind k f.kind; size = size (max a.size.height (n + f.height)) (a.size.words + f.words) }
+-- Arguments: the size of those so far, or none if some argument does not have its parameter's kind.
+abbrev pub no_arguments : Option Size
+no_arguments = Some (size 0 0)
 
-abbrev pub no_arguments : Arguments
-no_arguments = record { fit = true; size = size 0 0 }
+-- argument n of kind k, behind the others
+abbrev pub added : Option Size → ℕ → Kind → Found → Option Size
+added None n k f = None
+added (Some a) n k f = cond (same_kind k f.kind) (Some (size (max a.height (n + f.size.height)) (a.words + f.size.words))) None
+
+abbrev pub needed : Option Size → Size
+needed a = unwrap_or a (size 0 0)
 
 -- arguments of these kinds from place j on, the first of them argument n; `one` walks one
-abbrev pub args_from : (ℕ → Answer (Found × ℕ)) → List Kind → ℕ → Arguments → ℕ → Answer (Arguments × ℕ)
+abbrev pub args_from : (ℕ → Answer (Found × ℕ)) → List Kind → ℕ → Option Size → ℕ → Answer (Option Size × ℕ)
 args_from one [] n a j = Ok (a, j)
 args_from one (k ∷ ks) n a j = onward (one j) (λ p. args_from one ks (n + 1) (added a n k p.0) p.1)
+
+-- all arguments of a call at node i have their parameters' kinds
+abbrev pub fitting : ℕ → Option Size → Answer Size
+fitting i a = ok_or a (Child i)
 
 -- The function that a call at node i names.
 abbrev pub called_at : (ℕ → Option Signature) → ℕ → ℕ → Answer Signature
@@ -136,14 +141,14 @@ expr_at e one i (Constant k n) = Ok (found k 1 1, i + 1)
 expr_at e one i (Slot s x) = onward (ok_or (slot_kind e.own e.main s x) (Variable i)) (λ k. Ok (found k 1 1, i + 1))
 expr_at e one i (OfOne u) =
     onward (one (i + 1)) (λ p.
-    judged i (same_kind (operand_kind u) p.0.kind) (found (unary_kind u) p.0.height (p.0.words + unary_words u), p.1))
+    judged i (same_kind (operand_kind u) p.0.kind) (found (unary_kind u) p.0.size.height (p.0.size.words + unary_words u), p.1))
 expr_at e one i (OfTwo b) =
     onward (one (i + 1)) (λ p. onward (one p.1) (λ q.
     judged i (same_kind p.0.kind q.0.kind && operates b p.0.kind) (sized p.0.kind (stacked p.0 q.0), q.1)))
 expr_at e one i (Call f) =
     onward (called_at e.functions f i) (λ g. onward (with_result i g) (λ k.
     onward (args_from one (parameter_kinds g) 0 no_arguments (i + 1)) (λ q.
-    judged i q.0.fit (found k (max 1 q.0.size.height) (q.0.size.words + 1), q.1))))
+    onward (fitting i q.0) (λ s. Ok (found k (max 1 s.height) (s.words + 1), q.1)))))
 expr_at e one i (Read q) = Ok (found (format_kind q) 1 1, i + 1)
 
 abbrev pub expr_from : View → Env → ℕ → ℕ → Answer (Found × ℕ)
@@ -190,7 +195,7 @@ stmt_at e value test body ns i (Assign s x) =
 stmt_at e value test body ns i (Perform f) =
     onward (called_at e.functions f i) (λ g. onward (no_result i g.result) (λ _.
     onward (args_from value (parameter_kinds g) 0 no_arguments (i + 1)) (λ q.
-    judged i q.0.fit (size q.0.size.height (q.0.size.words + 1), q.1))))
+    onward (fitting i q.0) (λ s. Ok (size s.height (s.words + 1), q.1)))))
 stmt_at e value test body ns i If =
     onward (test (i + 1)) (λ p. onward (body ns p.1) (λ q. Ok (beside p.0 q.0, q.1)))
 stmt_at e value test body ns i IfElse =

@@ -1,12 +1,12 @@
 // The bodies of a table's functions, in order.
 ghost use Rattle.std.specs.Prelude.{◌≡◌, ◌+◌, ◌<◌, ◌≤◌, IfOk};
 ghost use Rattle.table.specs.View.{view};
-ghost use Rattle.walk.specs.Bodies.{env_of, context_at, body_from, function_from, bodies_from};
+ghost use Rattle.walk.specs.Bodies.{context_at, body_from, function_from, bodies_from};
+ghost use Rattle.walk.specs.Reads.{seen, env, BlockSpans};
 
 use crate::fault::CheckFault;
-use crate::found::{Context, Size};
+use crate::found::{Body, Context, Size};
 use crate::loops::Loops;
-use crate::statements::block;
 use table::{Table, TableFault};
 
 // The records that the nodes of function f may refer to as their own and as main's.
@@ -20,13 +20,15 @@ fn context(t: &Table, f: usize) -> Result<Context, CheckFault>
     Ok(Context { own, main })
 }
 
-// A body: a block with all 128 levels left and no loop open.
-fn body(t: &Table, cx: &Context, at: usize) -> Result<(Size, usize), CheckFault>
-    ensures is { result ≡ body_from (view t.now) (env_of (view t.now) cx.now) at }
-    ensures bound { IfOk result (λ p. (at < p.1) × (p.0.height + at + 1 ≤ p.1) × (p.0.words + at + 1 ≤ p.1) × (p.1 ≤ t.now.nodes)) }
-{
-    let mut loops = Loops::new();
-    block(t, cx, at, 128, &mut loops)
+impl Body<'_> {
+    // The whole body at `at`: a block with all 128 levels left and no loop open.
+    fn size(&self, at: usize) -> Result<(Size, usize), CheckFault>
+        ensures is { result ≡ body_from (seen self.now) (env self.now) at }
+        ensures bound { BlockSpans self.now at result }
+    {
+        let mut loops = Loops::new();
+        self.block(at, 128, &mut loops)
+    }
 }
 
 // Function f's body at node `at`, with the words before it: the words with it, and the next node's place.
@@ -35,9 +37,12 @@ fn function_body(t: &Table, f: usize, words: usize, at: usize) -> Result<(usize,
     ensures is { result ≡ function_from (view t.now) f words at }
     ensures bound { IfOk result (λ p. (p.0 ≤ 32 + p.1) × (p.1 ≤ t.now.nodes)) }
 {
-    let cx = context(t, f)?;
-    let (size, next) = body(t, &cx, at)?;
-    if usize::from(cx.own.variables) + usize::from(size.height) > 64 {
+    let body = Body {
+        table: &*t,
+        context: context(t, f)?,
+    };
+    let (size, next) = body.size(at)?;
+    if usize::from(body.context.own.variables) + usize::from(size.height) > 64 {
         return Err(CheckFault::Height(at));
     }
     Ok((words + usize::from(size.words) + 1, next))
@@ -50,9 +55,7 @@ pub(crate) fn bodies(t: &Table) -> Result<(usize, usize), CheckFault>
     let mut words = t.functions;
     let mut next = 0;
     for f in 0..t.functions {
-        let (more, after) = function_body(t, f, words, next)?;
-        words = more;
-        next = after;
+        (words, next) = function_body(t, f, words, next)?;
     }
     Ok((words, next))
 }

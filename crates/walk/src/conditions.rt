@@ -1,58 +1,45 @@
 // The walk over conditions.
-ghost use Rattle.std.specs.Prelude.{◌≡◌, ◌+◌, ◌<◌, ◌≤◌, IfOk};
-ghost use Rattle.table.specs.View.{view};
-ghost use Rattle.walk.specs.Bodies.{env_of};
-ghost use Rattle.walk.specs.Walk.{expr_from, cond_at, cond_from};
+ghost use Rattle.std.specs.Prelude.{◌≡◌, ◌<◌};
+ghost use Rattle.walk.specs.Reads.{value_walk, test_walk, SizeSpans};
+ghost use Rattle.walk.specs.Walk.{cond_at};
 
-use crate::arrive::arrive;
 use crate::fault::CheckFault;
-use crate::found::{Context, Size};
+use crate::found::{Body, Size};
 use crate::measure::side_by_side;
-use crate::uses::{compare, one_value};
-use table::{Condition, Kind, Shape, Table};
+use table::{Condition, Kind};
 
-// A condition: its height and words, and the next node's place.
-#[cycle(cond_cond_of)]
-pub(crate) fn cond(
-    t: &Table,
-    cx: &Context,
-    at: usize,
-    left: u8,
-) -> Result<(Size, usize), CheckFault>
-    ensures is { result ≡ cond_from (view t.now) (env_of (view t.now) cx.now) left at }
-    ensures bound { IfOk result (λ p. (at < p.1) × (p.0.height + at ≤ p.1) × (p.0.words + at ≤ p.1) × (p.1 ≤ t.now.nodes)) }
-{
-    match arrive(t, at, left) {
-        Ok(Shape::Condition(shape)) => cond_of(t, cx, shape, at, left - 1),
-        Ok(_) => Err(CheckFault::Sort(at)),
-        Err(fault) => Err(fault),
+impl Body<'_> {
+    // The condition at `at`: its height and words, and the next node's place.
+    #[cycle(condition_condition_of)]
+    pub(crate) fn condition(&self, at: usize, left: u8) -> Result<(Size, usize), CheckFault>
+        ensures is { result ≡ test_walk self.now left at }
+        ensures bound { SizeSpans self.now at result }
+    {
+        let shape = self.arrive_as(at, left)?;
+        self.condition_of(shape, at, left - 1)
     }
-}
 
-// The condition of that shape at `at`, with `left` levels of nesting left for its children.
-#[cycle(cond_cond_of)]
-fn cond_of(
-    t: &Table,
-    cx: &Context,
-    shape: Condition,
-    at: usize,
-    left: u8,
-) -> Result<(Size, usize), CheckFault>
-    requires { at < t.now.nodes }
-    ensures is { result ≡ cond_at (expr_from (view t.now) (env_of (view t.now) cx.now) left) (cond_from (view t.now) (env_of (view t.now) cx.now) left) at shape }
-    ensures bound { IfOk result (λ p. (at < p.1) × (p.0.height + at ≤ p.1) × (p.0.words + at ≤ p.1) × (p.1 ≤ t.now.nodes)) }
-{
-    match shape {
-        Condition::Compare(_) => compare(t, cx, at, left),
-        Condition::Not => {
-            let (c, next) = cond(t, cx, at + 1, left)?;
-            Ok((c, next))
+    // The condition of that shape at `at`, with `left` levels of nesting left for its children.
+    #[cycle(condition_condition_of)]
+    fn condition_of(
+        &self,
+        shape: Condition,
+        at: usize,
+        left: u8,
+    ) -> Result<(Size, usize), CheckFault>
+        requires { at < self.now.table.now.nodes }
+        ensures is { result ≡ cond_at (value_walk self.now left) (test_walk self.now left) at shape }
+        ensures bound { SizeSpans self.now at result }
+    {
+        match shape {
+            Condition::Compare(_) => self.compare(at, left),
+            Condition::Not => self.condition(at + 1, left),
+            Condition::Join(_) => {
+                let (a, middle) = self.condition(at + 1, left)?;
+                let (b, next) = self.condition(middle, left)?;
+                Ok((side_by_side(a, b), next))
+            }
+            Condition::Holds => self.one_value(Kind::Byte, at, left),
         }
-        Condition::Join(_) => {
-            let (c, middle) = cond(t, cx, at + 1, left)?;
-            let (d, next) = cond(t, cx, middle, left)?;
-            Ok((side_by_side(c, d), next))
-        }
-        Condition::Holds => one_value(t, cx, Kind::Byte, at, left),
     }
 }

@@ -1,25 +1,17 @@
-// What a walk finds of a subtree.
-use table::{Function, Kind};
+// What a walk goes over, and what it finds of a subtree.
+use table::{Function, Kind, Table};
 
-// Of an expression: its kind, its height, and its words of stack code.
-#[derive(Clone, Copy)]
-pub struct Found {
-    pub kind: Kind,
-    pub height: u16,
-    pub words: u16,
-}
-
-// Of a condition, a statement or a block.
-#[derive(Clone, Copy)]
+// Of a condition, a statement, a block or the arguments of a call: its height, and its words of stack code.
+#[derive(Clone, Copy, Default)]
 pub struct Size {
     pub height: u16,
     pub words: u16,
 }
 
-// Of the arguments of a call: whether each has its parameter's kind, and their size.
+// Of an expression: its kind too.
 #[derive(Clone, Copy)]
-pub struct Arguments {
-    pub fit: bool,
+pub struct Found {
+    pub kind: Kind,
     pub size: Size,
 }
 
@@ -28,6 +20,13 @@ pub struct Arguments {
 pub struct Context {
     pub own: Function,
     pub main: Option<Function>,
+}
+
+// A function whose body is read: the table where it stands, and the records that its nodes may refer to.
+#[derive(Clone, Copy)]
+pub struct Body<'a> {
+    pub table: &'a Table<'a>,
+    pub context: Context,
 }
 
 // What is known of a table that passes: its counts, and how many words its translation has.

@@ -1,11 +1,12 @@
 // What a node makes of what was found of its children. The kinds of the children are judged first.
 ghost use Rattle.std.specs.Prelude.{◌≡◌, ◌+◌, ◌<◌, max, ◌&&◌};
+ghost use Rattle.table.specs.Flow.{onward};
 ghost use Rattle.language.specs.Measures.{operand_kind, unary_kind, unary_words};
-ghost use Rattle.walk.specs.Walk.{found, size, sized, stacked, beside, topped, judged, same_kind, operates, added};
+ghost use Rattle.walk.specs.Walk.{found, size, sized, stacked, beside, topped, judged, same_kind, operates, needed, added, fitting};
 
-use crate::arrive::{same_kind, takes_kind, unary_kinds};
 use crate::fault::CheckFault;
-use crate::found::{Arguments, Found, Size};
+use crate::found::{Found, Size};
+use crate::operators::{operand_kind, takes_kind, unary_kind, unary_words};
 use table::{Binary, Kind, Unary};
 
 // A node that gives a value of that kind and has no children.
@@ -14,8 +15,10 @@ pub(crate) fn leaf(kind: Kind) -> Found
 {
     Found {
         kind,
-        height: 1,
-        words: 1,
+        size: Size {
+            height: 1,
+            words: 1,
+        },
     }
 }
 
@@ -26,29 +29,30 @@ pub(crate) fn operation_on_one(
     next: usize,
     at: usize,
 ) -> Result<(Found, usize), CheckFault>
-    requires { a.words < 65535 }
-    ensures { result ≡ judged at (same_kind (operand_kind operator) a.kind) (found (unary_kind operator) a.height (a.words + unary_words operator), next) }
+    requires { a.size.words < 65535 }
+    ensures { result ≡ judged at (same_kind (operand_kind operator) a.kind) (found (unary_kind operator) a.size.height (a.size.words + unary_words operator), next) }
 {
-    let (operand, kind, words) = unary_kinds(operator);
-    if !same_kind(operand, a.kind) {
+    if a.kind != operand_kind(operator) {
         return Err(CheckFault::Child(at));
     }
     let found = Found {
-        kind,
-        height: a.height,
-        words: a.words + words,
+        kind: unary_kind(operator),
+        size: Size {
+            words: a.size.words + unary_words(operator),
+            ..a.size
+        },
     };
     Ok((found, next))
 }
 
 // The right operand stands on the left one's value; the operator adds a word.
 fn stack(a: Found, b: Found) -> Size
-    requires { (b.height < 65535) × (a.words + b.words < 65535) }
+    requires { (b.size.height < 65535) × (a.size.words + b.size.words < 65535) }
     ensures { result ≡ stacked a b }
 {
     Size {
-        height: a.height.max(1 + b.height),
-        words: a.words + b.words + 1,
+        height: a.size.height.max(1 + b.size.height),
+        words: a.size.words + b.size.words + 1,
     }
 }
 
@@ -60,17 +64,15 @@ pub(crate) fn operation_on_two(
     next: usize,
     at: usize,
 ) -> Result<(Found, usize), CheckFault>
-    requires { (b.height < 65535) × (a.words + b.words < 65535) }
+    requires { (b.size.height < 65535) × (a.size.words + b.size.words < 65535) }
     ensures { result ≡ judged at (same_kind a.kind b.kind && operates operator a.kind) (sized a.kind (stacked a b), next) }
 {
-    if !(same_kind(a.kind, b.kind) && takes_kind(operator, a.kind)) {
+    if a.kind != b.kind || !takes_kind(operator, a.kind) {
         return Err(CheckFault::Child(at));
     }
-    let size = stack(a, b);
     let found = Found {
         kind: a.kind,
-        height: size.height,
-        words: size.words,
+        size: stack(a, b),
     };
     Ok((found, next))
 }
@@ -82,10 +84,10 @@ pub(crate) fn comparison(
     next: usize,
     at: usize,
 ) -> Result<(Size, usize), CheckFault>
-    requires { (b.height < 65535) × (a.words + b.words < 65535) }
+    requires { (b.size.height < 65535) × (a.size.words + b.size.words < 65535) }
     ensures { result ≡ judged at (same_kind a.kind b.kind) (stacked a b, next) }
 {
-    if !same_kind(a.kind, b.kind) {
+    if a.kind != b.kind {
         return Err(CheckFault::Child(at));
     }
     Ok((stack(a, b), next))
@@ -98,73 +100,75 @@ pub(crate) fn topped_value(
     next: usize,
     at: usize,
 ) -> Result<(Size, usize), CheckFault>
-    requires { value.words < 65535 }
+    requires { value.size.words < 65535 }
     ensures { result ≡ judged at (same_kind kind value.kind) (topped value, next) }
 {
-    if !same_kind(kind, value.kind) {
+    if value.kind != kind {
         return Err(CheckFault::Child(at));
     }
-    let height = value.height;
-    let words = value.words + 1;
-    Ok((Size { height, words }, next))
+    Ok((value.size.and_word(), next))
 }
 
 // Argument i of a call, for a parameter of that kind, behind the arguments before it.
-pub(crate) fn add_argument(taken: Arguments, i: u16, kind: Kind, argument: Found) -> Arguments
-    requires { (i + argument.height < 65536) × (taken.size.words + argument.words < 65536) }
+pub(crate) fn add_argument(taken: Option<Size>, i: u16, kind: Kind, argument: Found) -> Option<Size>
+    requires { (i + argument.size.height < 65536) × ((needed taken).words + argument.size.words < 65536) }
     ensures { result ≡ added taken i kind argument }
 {
-    Arguments {
-        fit: taken.fit && same_kind(kind, argument.kind),
-        size: Size {
-            height: taken.size.height.max(i + argument.height),
-            words: taken.size.words + argument.words,
-        },
+    let before = taken?;
+    if argument.kind != kind {
+        return None;
     }
+    Some(Size {
+        height: before.height.max(i + argument.size.height),
+        words: before.words + argument.size.words,
+    })
 }
 
 // A call with all its arguments.
 pub(crate) fn called_with(
-    taken: Arguments,
+    taken: Option<Size>,
     next: usize,
     at: usize,
 ) -> Result<(Size, usize), CheckFault>
-    requires { taken.size.words < 65535 }
-    ensures { result ≡ judged at taken.fit (size taken.size.height (taken.size.words + 1), next) }
+    requires { (needed taken).words < 65535 }
+    ensures { result ≡ onward (fitting at taken) (λ s. Ok (size s.height (s.words + 1), next)) }
 {
-    if !taken.fit {
-        return Err(CheckFault::Child(at));
-    }
-    let height = taken.size.height;
-    let words = taken.size.words + 1;
-    Ok((Size { height, words }, next))
+    let arguments = taken.ok_or(CheckFault::Child(at))?;
+    Ok((arguments.and_word(), next))
 }
 
 // A call that gives a value, which needs a place even without arguments.
 pub(crate) fn value_of_call(
     kind: Kind,
-    taken: Arguments,
+    taken: Option<Size>,
     next: usize,
     at: usize,
 ) -> Result<(Found, usize), CheckFault>
-    requires { taken.size.words < 65535 }
-    ensures { result ≡ judged at taken.fit (found kind (max 1 taken.size.height) (taken.size.words + 1), next) }
+    requires { (needed taken).words < 65535 }
+    ensures { result ≡ onward (fitting at taken) (λ s. Ok (found kind (max 1 s.height) (s.words + 1), next)) }
 {
-    if !taken.fit {
-        return Err(CheckFault::Child(at));
-    }
-    let height = taken.size.height.max(1);
-    let words = taken.size.words + 1;
-    Ok((
-        Found {
-            kind,
-            height,
-            words,
-        },
-        next,
-    ))
+    let arguments = taken.ok_or(CheckFault::Child(at))?;
+    let size = Size {
+        height: arguments.height.max(1),
+        words: arguments.words + 1,
+    };
+    Ok((Found { kind, size }, next))
 }
 
+impl Size {
+    // The same with a word of the node above.
+    pub(crate) fn and_word(self) -> Size
+        requires { self.words < 65535 }
+        ensures { result ≡ size self.height (self.words + 1) }
+    {
+        Size {
+            words: self.words + 1,
+            ..self
+        }
+    }
+}
+
+// Two parts of a node, side by side.
 pub(crate) fn side_by_side(a: Size, b: Size) -> Size
     requires { a.words + b.words < 65536 }
     ensures { result ≡ beside a b }

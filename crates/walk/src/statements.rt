@@ -1,20 +1,26 @@
 // The walk over statements and blocks.
-ghost use Rattle.std.specs.Prelude.{◌≡◌, ◌+◌, ◌<◌, ◌≤◌, IfOk};
-ghost use Rattle.table.specs.View.{view};
-ghost use Rattle.walk.specs.Bodies.{env_of};
+ghost use Rattle.std.specs.Prelude.{◌≡◌, ◌+◌, ◌<◌};
 ghost use Rattle.walk.specs.Names.{names};
-ghost use Rattle.walk.specs.Walk.{expr_from, cond_from, stmt_at, stmt_from, block_from, leaves, exits};
+ghost use Rattle.walk.specs.Reads.{act_walk, block_walk, act_shaped, SizeSpans, BlockSpans};
+ghost use Rattle.walk.specs.Walk.{size, leaves, exits};
 ghost use Rattle.table.specs.declared.shape.Statement.TheVariants.{Loop as Repeat};
 
-use crate::arrive::{arrive, format_kind};
-use crate::conditions::cond;
 use crate::fault::CheckFault;
-use crate::found::{Context, Size};
-use crate::loops::Loops;
+use crate::found::{Body, Size};
+use crate::loops::{LoopGuard, Loops};
 use crate::measure::side_by_side;
-use crate::opens::{LoopGuard, push_loop};
-use crate::uses::{one_value, perform};
-use table::{Kind, Shape, Statement, Table};
+use crate::operators::format_kind;
+use table::{Kind, Statement};
+
+// A statement of one word and nothing below it.
+fn one_word() -> Size
+    ensures { result ≡ size 0 1 }
+{
+    Size {
+        words: 1,
+        ..Size::default()
+    }
+}
 
 // A break or continue names an open loop.
 fn leave_loop(loops: &Loops, name: u16, at: usize) -> Result<(Size, usize), CheckFault>
@@ -22,11 +28,7 @@ fn leave_loop(loops: &Loops, name: u16, at: usize) -> Result<(Size, usize), Chec
     ensures { result ≡ leaves (names loops.now) name at }
 {
     if loops.is_open(name) {
-        let size = Size {
-            height: 0,
-            words: 1,
-        };
-        Ok((size, at + 1))
+        Ok((one_word(), at + 1))
     } else {
         Err(CheckFault::Loop(at))
     }
@@ -38,144 +40,110 @@ fn exit_from(res: Option<Kind>, at: usize) -> Result<(Size, usize), CheckFault>
     ensures { result ≡ exits res at }
 {
     match res {
-        None => {
-            let size = Size {
-                height: 0,
-                words: 1,
-            };
-            Ok((size, at + 1))
-        }
+        None => Ok((one_word(), at + 1)),
         Some(_) => Err(CheckFault::Exit(at)),
     }
 }
 
-// A statement among the open loops: its height and words, and the next node's place.
-#[cycle(block_repeat_stmt_stmt_of)]
-fn stmt(
-    t: &Table,
-    cx: &Context,
-    at: usize,
-    left: u8,
-    loops: &mut Loops,
-) -> Result<(Size, usize), CheckFault>
-    ensures is { result ≡ stmt_from (view t.now) (env_of (view t.now) cx.now) left (names loops.old) at }
-    ensures kept { names loops.new ≡ names loops.old }
-    ensures bound { IfOk result (λ p. (at < p.1) × (p.0.height + at ≤ p.1) × (p.0.words + at ≤ p.1) × (p.1 ≤ t.now.nodes)) }
-{
-    match arrive(t, at, left) {
-        Ok(Shape::Statement(shape)) => stmt_of(t, cx, shape, at, left - 1, loops),
-        Ok(_) => Err(CheckFault::Sort(at)),
-        Err(fault) => Err(fault),
+impl Body<'_> {
+    // The statement at `at` among the open loops: its height and words, and the next node's place.
+    #[cycle(block_repeat_statement_statement_of)]
+    fn statement(&self, at: usize, left: u8, loops: &mut Loops) -> Result<(Size, usize), CheckFault>
+        ensures is { result ≡ act_walk self.now left (names loops.old) at }
+        ensures kept { names loops.new ≡ names loops.old }
+        ensures bound { SizeSpans self.now at result }
+    {
+        let shape = self.arrive_as(at, left)?;
+        self.statement_of(shape, at, left - 1, loops)
     }
-}
 
-// The statement of that shape at `at`, with `left` levels of nesting left for its children.
-#[cycle(block_repeat_stmt_stmt_of)]
-fn stmt_of(
-    t: &Table,
-    cx: &Context,
-    shape: Statement,
-    at: usize,
-    left: u8,
-    loops: &mut Loops,
-) -> Result<(Size, usize), CheckFault>
-    requires { at < t.now.nodes }
-    ensures is { result ≡ stmt_at (env_of (view t.now) cx.now) (expr_from (view t.now) (env_of (view t.now) cx.now) left) (cond_from (view t.now) (env_of (view t.now) cx.now) left) (block_from (view t.now) (env_of (view t.now) cx.now) left) (names loops.old) at shape }
-    ensures kept { names loops.new ≡ names loops.old }
-    ensures bound { IfOk result (λ p. (at < p.1) × (p.0.height + at ≤ p.1) × (p.0.words + at ≤ p.1) × (p.1 ≤ t.now.nodes)) }
-{
-    match shape {
-        Statement::Skip => {
-            let size = Size {
-                height: 0,
-                words: 0,
-            };
-            Ok((size, at + 1))
-        }
-        Statement::Assign(scope, slot) => {
-            let kind = cx.variable_kind(scope, slot, at)?;
-            one_value(t, cx, kind, at, left)
-        }
-        Statement::Perform(f) => perform(t, cx, f, at, left),
-        Statement::If => {
-            let (c, middle) = cond(t, cx, at + 1, left)?;
-            let (b, next) = block(t, cx, middle, left, loops)?;
-            Ok((side_by_side(c, b), next))
-        }
-        Statement::IfElse => {
-            let (c, middle) = cond(t, cx, at + 1, left)?;
-            let (b, behind) = block(t, cx, middle, left, loops)?;
-            let (d, next) = block(t, cx, behind, left, loops)?;
-            let height = c.height.max(b.height.max(d.height));
-            let words = c.words + b.words + d.words + 1;
-            Ok((Size { height, words }, next))
-        }
-        Statement::Loop(name) => repeat(t, cx, name, at, left, loops),
-        Statement::Break(name) => leave_loop(loops, name, at),
-        Statement::Continue(name) => leave_loop(loops, name, at),
-        Statement::Exit => exit_from(cx.own.result, at),
-        Statement::Return => match cx.own.result {
-            Some(kind) => one_value(t, cx, kind, at, left),
-            None => Err(CheckFault::Exit(at)),
-        },
-        Statement::Write(format) => {
-            let kind = format_kind(format);
-            one_value(t, cx, kind, at, left)
+    // The statement of that shape at `at`, with `left` levels of nesting left for its children.
+    #[cycle(block_repeat_statement_statement_of)]
+    fn statement_of(
+        &self,
+        shape: Statement,
+        at: usize,
+        left: u8,
+        loops: &mut Loops,
+    ) -> Result<(Size, usize), CheckFault>
+        requires { at < self.now.table.now.nodes }
+        ensures is { result ≡ act_shaped self.now left (names loops.old) at shape }
+        ensures kept { names loops.new ≡ names loops.old }
+        ensures bound { SizeSpans self.now at result }
+    {
+        match shape {
+            Statement::Skip => Ok((Size::default(), at + 1)),
+            Statement::Assign(scope, slot) => {
+                let kind = self.context.kind_at(scope, slot, at)?;
+                self.one_value(kind, at, left)
+            }
+            Statement::Perform(f) => self.perform(f, at, left),
+            Statement::If => {
+                let (test, middle) = self.condition(at + 1, left)?;
+                let (body, next) = self.block(middle, left, loops)?;
+                Ok((side_by_side(test, body), next))
+            }
+            Statement::IfElse => {
+                let (test, middle) = self.condition(at + 1, left)?;
+                let (body, behind) = self.block(middle, left, loops)?;
+                let (other, next) = self.block(behind, left, loops)?;
+                let size = side_by_side(test, side_by_side(body, other));
+                Ok((size.and_word(), next))
+            }
+            Statement::Loop(name) => self.repeat(name, at, left, loops),
+            Statement::Break(name) | Statement::Continue(name) => leave_loop(loops, name, at),
+            Statement::Exit => exit_from(self.context.own.result, at),
+            Statement::Return => match self.context.own.result {
+                Some(kind) => self.one_value(kind, at, left),
+                None => Err(CheckFault::Exit(at)),
+            },
+            Statement::Write(format) => self.one_value(format_kind(format), at, left),
         }
     }
-}
 
-// A loop: its name is open for its block alone.
-#[cycle(block_repeat_stmt_stmt_of)]
-fn repeat(
-    t: &Table,
-    cx: &Context,
-    name: u16,
-    at: usize,
-    left: u8,
-    loops: &mut Loops,
-) -> Result<(Size, usize), CheckFault>
-    requires { at < t.now.nodes }
-    ensures is { result ≡ stmt_at (env_of (view t.now) cx.now) (expr_from (view t.now) (env_of (view t.now) cx.now) left) (cond_from (view t.now) (env_of (view t.now) cx.now) left) (block_from (view t.now) (env_of (view t.now) cx.now) left) (names loops.old) at (Repeat name) }
-    ensures kept { names loops.new ≡ names loops.old }
-    ensures bound { IfOk result (λ p. (at < p.1) × (p.0.height + at ≤ p.1) × (p.0.words + at ≤ p.1) × (p.1 ≤ t.now.nodes)) }
-{
-    if loops.open_count() >= 16 {
-        return Err(CheckFault::Loop(at));
+    // A loop: its name is open for its block alone.
+    #[cycle(block_repeat_statement_statement_of)]
+    fn repeat(
+        &self,
+        name: u16,
+        at: usize,
+        left: u8,
+        loops: &mut Loops,
+    ) -> Result<(Size, usize), CheckFault>
+        requires { at < self.now.table.now.nodes }
+        ensures is { result ≡ act_shaped self.now left (names loops.old) at (Repeat name) }
+        ensures kept { names loops.new ≡ names loops.old }
+        ensures bound { SizeSpans self.now at result }
+    {
+        if loops.open_count() >= 16 {
+            return Err(CheckFault::Loop(at));
+        }
+        loops.push(name);
+        let guard = LoopGuard { held: loops };
+        let (body, next) = self.block(at + 1, left, guard.held)?;
+        Ok((body.and_word(), next))
     }
-    push_loop(loops, name);
-    let guard = LoopGuard { held: loops };
-    let (b, next) = block(t, cx, at + 1, left, guard.held)?;
-    let height = b.height;
-    let words = b.words + 1;
-    Ok((Size { height, words }, next))
-}
 
-// A block among the open loops: its height and words, and the next node's place.
-#[cycle(block_repeat_stmt_stmt_of)]
-pub(crate) fn block(
-    t: &Table,
-    cx: &Context,
-    at: usize,
-    left: u8,
-    loops: &mut Loops,
-) -> Result<(Size, usize), CheckFault>
-    ensures is { result ≡ block_from (view t.now) (env_of (view t.now) cx.now) left (names loops.old) at }
-    ensures kept { names loops.new ≡ names loops.old }
-    ensures bound { IfOk result (λ p. (at < p.1) × (p.0.height + at + 1 ≤ p.1) × (p.0.words + at + 1 ≤ p.1) × (p.1 ≤ t.now.nodes)) }
-{
-    let Shape::Block(count) = arrive(t, at, left)? else {
-        return Err(CheckFault::Sort(at));
-    };
-    let mut size = Size {
-        height: 0,
-        words: 0,
-    };
-    let mut next = at + 1;
-    for _i in 0..count {
-        let (statement, after) = stmt(t, cx, next, left - 1, loops)?;
-        size = side_by_side(size, statement);
-        next = after;
+    // The block at `at` among the open loops: its height and words, and the next node's place.
+    #[cycle(block_repeat_statement_statement_of)]
+    pub(crate) fn block(
+        &self,
+        at: usize,
+        left: u8,
+        loops: &mut Loops,
+    ) -> Result<(Size, usize), CheckFault>
+        ensures is { result ≡ block_walk self.now left (names loops.old) at }
+        ensures kept { names loops.new ≡ names loops.old }
+        ensures bound { BlockSpans self.now at result }
+    {
+        let count: u16 = self.arrive_as(at, left)?;
+        let mut size = Size::default();
+        let mut next = at + 1;
+        for _i in 0..count {
+            let (statement, after) = self.statement(next, left - 1, loops)?;
+            size = side_by_side(size, statement);
+            next = after;
+        }
+        Ok((size, next))
     }
-    Ok((size, next))
 }

@@ -6,4 +6,4 @@ use Rattle.checker.proofs.program.Program.counts.Goals as goal
 
 pub returns : goal.returns
 returns c =
-    exactly (held c.args.self.now) (Ok c.passed.result) (subst (λ (bs : List ℕ). Bytes bs) c.table.ensures c.read_through.ensures) (sym c.passed.ensures)
+    exactly (held c.args.self.now) (Ok c.passed.result) (subst (λ (bs : List ℕ). Bytes bs) c.table.ensures c.below_256.ensures) (sym c.passed.ensures)
