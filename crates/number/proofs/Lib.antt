@@ -1,3 +1,4 @@
+pub mod Remainders
 pub mod Tests
 pub mod Exact
 pub mod Feeds

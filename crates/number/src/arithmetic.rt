@@ -10,12 +10,11 @@ pub fn fold<K: NumberKind>(n: i32) -> i16
     ensures value { result ≡ folded K.NumberKind.kind n }
     ensures law { Folds K.NumberKind.kind n result }
 {
-    let span = K::count();
-    let rest = n.rem_euclid(span);
-    if rest <= K::highest() {
+    let rest = n.rem_euclid(K::SPAN);
+    if rest <= K::HIGH {
         rest as i16
     } else {
-        (rest - span) as i16
+        (rest - K::SPAN) as i16
     }
 }
 

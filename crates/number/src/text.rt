@@ -74,7 +74,7 @@ fn judge<K: NumberKind>(number: Option<u32>, count: usize) -> Reading
 {
     match number {
         Some(n) => {
-            if n <= K::highest() as u32 {
+            if n <= K::HIGH as u32 {
                 Reading::Took {
                     value: n as i16,
                     count,

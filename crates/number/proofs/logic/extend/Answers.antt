@@ -1,6 +1,7 @@
 use Rattle.std.proofs.Common.{◌≡◌, ◌∙◌, w16, to_z, of_z, rules}
 use Rattle.number.specs.Number.{byte, folded}
-use Rattle.number.specs.Folding.{byte_cells, folded-within}
+use Rattle.number.specs.Folding.{byte_cells}
+use Rattle.number.proofs.Remainders.{folded-within}
 use Rattle.number.proofs.logic.extend.Goals as goal
 
 pub returns : goal.returns
