@@ -42,12 +42,7 @@ fn line_feed(bytes: &[u8]) -> Option<usize>
     ensures place { result ≡ feed_among 8 bytes.now }
     ensures inside { IfSome result (λ i. (i < 8) × (i < length bytes.now)) }
 {
-    for i in 0..bytes.len().min(WINDOW) {
-        if bytes[i] == LINE_FEED {
-            return Some(i);
-        }
-    }
-    None
+    bytes.iter().take(WINDOW).position(|b| *b == LINE_FEED)
 }
 
 // The number that a text of digits writes. Seven digits are below ten million.
