@@ -4,7 +4,7 @@ ghost use Rattle.number.specs.Reading.{feed_among, numeral, taken, reading, Sett
 
 use crate::kind::NumberKind;
 
-// What a reading of a number came to.
+// What a reading of a number came to: three answers, and so neither an Option nor a Result.
 #[derive(Clone, Copy, PartialEq, Eq, Debug)]
 pub enum Reading {
     // More bytes are needed before the text can be judged.
@@ -55,7 +55,7 @@ fn numeral_of(text: &[u8]) -> Option<u32>
     }
     let mut value = 0;
     for b in text {
-        if *b < b'0' || *b > b'9' {
+        if !b.is_ascii_digit() {
             return None;
         }
         value = value * 10 + u32::from(*b - b'0');
@@ -68,16 +68,10 @@ fn judge<K: NumberKind>(number: Option<u32>, count: usize) -> Reading
     ensures { result ≡ taken K.NumberKind.kind count number }
 {
     match number {
-        Some(n) => {
-            if n <= K::HIGH as u32 {
-                Reading::Took {
-                    value: n as i16,
-                    count,
-                }
-            } else {
-                Reading::Refused
-            }
-        }
-        None => Reading::Refused,
+        Some(n) if n <= K::HIGH as u32 => Reading::Took {
+            value: n as i16,
+            count,
+        },
+        _ => Reading::Refused,
     }
 }
