@@ -4,5 +4,4 @@ pub mod Exact
 pub mod Feeds
 pub mod Figures
 pub mod Readings
-pub mod Writing
 pub mod Back
