@@ -1,6 +1,6 @@
 // Looking at the first bytes that wait and sending a text, over any line.
 ghost use Rattle.std.specs.Prelude.{◌≡◌, ◌≤◌, take};
-ghost use Rattle.line.specs.Ends.{Whole};
+ghost use Rattle.line.specs.Ends.{Whole, Kept};
 
 use crate::Line;
 
@@ -39,7 +39,7 @@ pub fn peek<L: Line>(line: &L) -> Window
 // Sends the text whole, or nothing where it is longer than the room; answers which.
 pub fn send_text<L: Line>(line: &mut L, text: &[u8]) -> bool
     ensures goes { Whole result text.now (L.Line.sent line.old) (L.Line.room line.old) (L.Line.sent line.new) (L.Line.room line.new) }
-    ensures kept { (L.Line.waiting line.new ≡ L.Line.waiting line.old) × (L.Line.hold line.new ≡ L.Line.hold line.old) }
+    ensures kept { Kept (L.Line.waiting line.old) (L.Line.hold line.old) (L.Line.waiting line.new) (L.Line.hold line.new) }
 {
     if text.len() > line.room_left() {
         return false;
