@@ -72,11 +72,7 @@ impl Line for Ring {
     }
 
     fn waiting_at(&self, i: usize) -> Option<u8> {
-        if i < self.count {
-            Some(self.inbox[wrap(self.first + i)])
-        } else {
-            None
-        }
+        (i < self.count).then(|| self.inbox[wrap(self.first + i)])
     }
 
     fn sent_at(&self, i: usize) -> Option<u8> {
