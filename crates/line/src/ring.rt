@@ -11,6 +11,7 @@ const INBOX: usize = 256;
 const OUTBOX: usize = 1024;
 
 // The bytes that wait go round in the inbox; a place that was taken is used again.
+// Buffers with their counts beside them, since C hosts read this layout.
 #[derive(Drop)]
 pub struct Ring {
     inbox: [u8; INBOX],
@@ -39,7 +40,7 @@ impl Ring {
     }
 }
 
-// The place in the inbox.
+// The place in the inbox, by a mask and not by a division, as docs/LINE.md says.
 fn wrap(i: usize) -> usize
     ensures { result ≡ i % 256 }
 {

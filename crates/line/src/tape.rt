@@ -7,6 +7,7 @@ use crate::Line;
 use crate::refusal::LineRefusal;
 
 // Bytes are fed into input and sent into output, each place used once.
+// Buffers with counts beside them, since the buffers are the caller's and there is no heap.
 #[derive(Drop)]
 pub struct Tape<'a> {
     input: &'a mut [u8],
