@@ -3,6 +3,7 @@ use line::{Line, LineRefusal, Ring, Tape};
 use std::process::Abort;
 use std::test::Fail;
 
+// A row names its call with what is passed: one list of rows then serves every line.
 #[derive(Clone, Copy)]
 enum Call {
     Feed(u8),
