@@ -15,7 +15,7 @@ use Rattle.number.specs.Number.{Kind as NumberKind, Within, Cells, folded, in_ra
 use Rattle.number.specs.Reading.{numeral, taken, judged, feed_among, reading}
 use Rattle.number.specs.declared.text.Reading.{Reading}
 use Rattle.number.specs.declared.text.Reading.TheVariants.{Wait, Refused, Took}
-use Rattle.number.specs.Folding.{folding, int_cells, byte_cells}
+use Rattle.number.specs.Folding.{every_kind_folds, int_cells, byte_cells}
 use Rattle.language.specs.Measures.{operand_kind, unary_kind, format_kind}
 use Rattle.table.specs.Shapes.{ConstantFits}
 use Rattle.language.specs.Rules.{Operates}
@@ -27,7 +27,7 @@ cells Int = int_cells
 cells Byte = byte_cells
 
 folds : (k : Kind) (n : ℤ) → IsOf k (folded (numbers_of k) n)
-folds k n = (folding (numbers_of k) (cells k) n).within
+folds k n = (every_kind_folds (numbers_of k) (cells k) n).within
 
 pub of-constant : (k : Kind) (n : ℕ) → ConstantFits k n → IsOf k (pos n)
 of-constant Int n l = record { least = omega (arith, ints); most = omega (arith, ints) }

@@ -3,6 +3,7 @@ use line::{Line, LineRefusal, Ring, Tape};
 use std::process::Abort;
 use std::test::Fail;
 
+// A row names its call with what is passed: one list of rows then serves every line.
 #[derive(Clone, Copy)]
 enum Call {
     Feed(u8),
@@ -10,8 +11,8 @@ enum Call {
     Send(u8),
 }
 
-// A call, the number of its refusal or 0, and then how many bytes wait, were sent, may be fed and may be sent.
-struct Row(Call, u16, [usize; 4]);
+// A call, the number of its refusal if it is refused, and then how many bytes wait, were sent, may be fed and may be sent.
+struct Row(Call, Option<u16>, [usize; 4]);
 
 fn made<L: Line>(line: &mut L, call: Call) -> Result<(), LineRefusal> {
     match call {
@@ -21,11 +22,10 @@ fn made<L: Line>(line: &mut L, call: Call) -> Result<(), LineRefusal> {
     }
 }
 
-fn number_of(answer: Result<(), LineRefusal>) -> u16 {
-    match answer {
-        Ok(()) => 0,
-        Err(refusal) => refusal.number() + refusal.place(),
-    }
+fn number_of(answer: Result<(), LineRefusal>) -> Option<u16> {
+    answer
+        .err()
+        .map(|refusal| refusal.number() + refusal.place())
 }
 
 fn counts<L: Line>(line: &L) -> [usize; 4] {
@@ -54,17 +54,17 @@ fn tape_to_its_last_byte(rt: HostRuntime) {
         &rt,
         &mut tape,
         &[
-            Row(Call::Take(1), 52, [0, 0, 3, 2]),
-            Row(Call::Feed(7), 0, [1, 0, 2, 2]),
-            Row(Call::Feed(8), 0, [2, 0, 1, 2]),
-            Row(Call::Take(1), 0, [1, 0, 1, 2]),
-            Row(Call::Feed(9), 0, [2, 0, 0, 2]),
-            Row(Call::Feed(1), 50, [2, 0, 0, 2]),
-            Row(Call::Take(3), 52, [2, 0, 0, 2]),
-            Row(Call::Send(4), 0, [2, 1, 0, 1]),
-            Row(Call::Send(6), 0, [2, 2, 0, 0]),
-            Row(Call::Send(1), 51, [2, 2, 0, 0]),
-            Row(Call::Take(1), 0, [1, 2, 0, 0]),
+            Row(Call::Take(1), Some(52), [0, 0, 3, 2]),
+            Row(Call::Feed(7), None, [1, 0, 2, 2]),
+            Row(Call::Feed(8), None, [2, 0, 1, 2]),
+            Row(Call::Take(1), None, [1, 0, 1, 2]),
+            Row(Call::Feed(9), None, [2, 0, 0, 2]),
+            Row(Call::Feed(1), Some(50), [2, 0, 0, 2]),
+            Row(Call::Take(3), Some(52), [2, 0, 0, 2]),
+            Row(Call::Send(4), None, [2, 1, 0, 1]),
+            Row(Call::Send(6), None, [2, 2, 0, 0]),
+            Row(Call::Send(1), Some(51), [2, 2, 0, 0]),
+            Row(Call::Take(1), None, [1, 2, 0, 0]),
         ],
     );
     assert_eq!(rt; [tape.waiting_at(0), tape.waiting_at(1)], [Some(9), None]);
@@ -84,8 +84,8 @@ fn turn(rt: &impl Abort, ring: &mut Ring, round: u8) -> Result<(), Fail> {
         rt,
         ring,
         &[
-            Row(Call::Take(201), 52, [200, 0, 56, 1024]),
-            Row(Call::Take(200), 0, [0, 0, 256, 1024]),
+            Row(Call::Take(201), Some(52), [200, 0, 56, 1024]),
+            Row(Call::Take(200), None, [0, 0, 256, 1024]),
         ],
     );
     Ok(())
@@ -113,8 +113,8 @@ fn ring_to_its_last_byte(rt: HostRuntime) -> Result<(), Fail> {
         &rt,
         &mut ring,
         &[
-            Row(Call::Feed(2), 50, [256, 1024, 0, 0]),
-            Row(Call::Send(2), 51, [256, 1024, 0, 0]),
+            Row(Call::Feed(2), Some(50), [256, 1024, 0, 0]),
+            Row(Call::Send(2), Some(51), [256, 1024, 0, 0]),
         ],
     );
     assert_eq!(rt; [ring.sent_at(1023), ring.sent_at(1024)], [Some(3), None]);

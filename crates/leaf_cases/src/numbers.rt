@@ -2,6 +2,7 @@
 use number::{Byte, Int, NumberKind};
 use std::process::Abort;
 
+// A row names its operation: with a function in its place each row would name the kind again.
 #[derive(Clone, Copy)]
 enum Op {
     Add,

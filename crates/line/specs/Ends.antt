@@ -13,6 +13,10 @@ told TooFew = (52, 0)
 abbrev pub at : List ℕ → ℕ → Option ℕ
 at xs i = cond (nat_lt i (length xs)) (Some (slice_index xs i)) None
 
+-- Bytes, and the free places beside them, that a call leaves as they were.
+abbrev pub Kept : List ℕ → ℕ → List ℕ → ℕ → Type 0
+Kept xs free ys free' = (ys ≡ xs) × (free' ≡ free)
+
 -- One byte more at the end of xs and one free place fewer; refused, with this number, exactly where no place is free.
 abbrev pub Added : ℕ → Result (Unit {0}) LineRefusal → ℕ → List ℕ → ℕ → List ℕ → ℕ → Type 0
 Added number r b xs free ys free' =

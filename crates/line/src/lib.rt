@@ -2,7 +2,7 @@
 #![tactic(auto)]
 
 ghost use Rattle.std.specs.Prelude.{◌≡◌, ℕ, List, length};
-ghost use Rattle.line.specs.Ends.{at, Added, Removed};
+ghost use Rattle.line.specs.Ends.{at, Added, Removed, Kept};
 
 mod refusal;
 mod ring;
@@ -44,13 +44,13 @@ pub trait Line {
 
     fn feed(&mut self, b: u8) -> Result<(), LineRefusal>
         ensures waits { Added 50 result b (waiting self.old) (hold self.old) (waiting self.new) (hold self.new) }
-        ensures kept { (sent self.new ≡ sent self.old) × (room self.new ≡ room self.old) };
+        ensures kept { Kept (sent self.old) (room self.old) (sent self.new) (room self.new) };
 
     fn take(&mut self, n: usize) -> Result<(), LineRefusal>
         ensures waits { Removed result n (waiting self.old) (hold self.old) (waiting self.new) (hold self.new) }
-        ensures kept { (sent self.new ≡ sent self.old) × (room self.new ≡ room self.old) };
+        ensures kept { Kept (sent self.old) (room self.old) (sent self.new) (room self.new) };
 
     fn send(&mut self, b: u8) -> Result<(), LineRefusal>
         ensures goes { Added 51 result b (sent self.old) (room self.old) (sent self.new) (room self.new) }
-        ensures kept { (waiting self.new ≡ waiting self.old) × (hold self.new ≡ hold self.old) };
+        ensures kept { Kept (waiting self.old) (hold self.old) (waiting self.new) (hold self.new) };
 }

@@ -1,4 +1,4 @@
-// What a line refuses.
+// What a line refuses. docs/REFUSALS.md gives every refusal a number and a place.
 ghost use Rattle.std.specs.Prelude.{◌≡◌};
 ghost use Rattle.line.specs.Ends.{told};
 

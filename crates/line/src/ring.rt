@@ -1,6 +1,6 @@
 // A line that keeps its bytes itself: 256 that wait and 1,024 that were sent.
 ghost use Rattle.std.specs.Prelude.{◌≡◌, ◌+◌, ◌-◌, ◌%◌, ◌<◌, ◌≤◌, [], take, MatchResult};
-ghost use Rattle.line.specs.Ends.{Removed};
+ghost use Rattle.line.specs.Ends.{Removed, Kept};
 ghost use Rattle.line.specs.Places.{around};
 
 use crate::Line;
@@ -11,12 +11,13 @@ const INBOX: usize = 256;
 const OUTBOX: usize = 1024;
 
 // The bytes that wait go round in the inbox; a place that was taken is used again.
+// Buffers with their counts beside them, since C hosts read this layout.
 #[derive(Drop)]
 pub struct Ring {
-    inbox: [u8; 256],
+    inbox: [u8; INBOX],
     first: usize,
     count: usize,
-    outbox: [u8; 1024],
+    outbox: [u8; OUTBOX],
     written: usize,
     ghost ok: { (first < 256) × (count ≤ 256) × (written ≤ 1024) },
 }
@@ -24,10 +25,10 @@ pub struct Ring {
 impl Ring {
     // An empty line that can be fed 256 bytes and sent 1,024.
     pub fn new() -> Ring
-        ensures waiting { around result.inbox result.first result.count ≡ [] }
-        ensures sent { take result.written result.outbox ≡ [] }
-        ensures hold { 256 - result.count ≡ 256 }
-        ensures room { 1024 - result.written ≡ 1024 }
+        ensures waiting { ⟦<Self as Line>⟧.waiting result ≡ [] }
+        ensures sent { ⟦<Self as Line>⟧.sent result ≡ [] }
+        ensures hold { ⟦<Self as Line>⟧.hold result ≡ 256 }
+        ensures room { ⟦<Self as Line>⟧.room result ≡ 1024 }
     {
         Ring {
             inbox: [0; INBOX],
@@ -39,7 +40,7 @@ impl Ring {
     }
 }
 
-// The place in the inbox.
+// The place in the inbox, by a mask and not by a division, as docs/LINE.md says.
 fn wrap(i: usize) -> usize
     ensures { result ≡ i % 256 }
 {
@@ -72,19 +73,11 @@ impl Line for Ring {
     }
 
     fn waiting_at(&self, i: usize) -> Option<u8> {
-        if i < self.count {
-            Some(self.inbox[wrap(self.first + i)])
-        } else {
-            None
-        }
+        (i < self.count).then(|| self.inbox[wrap(self.first + i)])
     }
 
     fn sent_at(&self, i: usize) -> Option<u8> {
-        if i < self.written {
-            Some(self.outbox[i])
-        } else {
-            None
-        }
+        self.outbox[..self.written].get(i).copied()
     }
 
     fn feed(&mut self, b: u8) -> Result<(), LineRefusal> {
@@ -98,9 +91,9 @@ impl Line for Ring {
     }
 
     fn take(&mut self, n: usize) -> Result<(), LineRefusal>
-        ensures waits { let s = self.old in let t = self.new in Removed result n (around s.inbox s.first s.count) (256 - s.count) (around t.inbox t.first t.count) (256 - t.count) }
-        ensures kept { let s = self.old in let t = self.new in (take t.written t.outbox ≡ take s.written s.outbox) × (1024 - t.written ≡ 1024 - s.written) }
-        ensures hold { let s = self.old in let t = self.new in MatchResult result (λ _. 256 - t.count ≡ (256 - s.count) + n) (λ _. 256 - t.count ≡ 256 - s.count) }
+        ensures waits { let line = ⟦<Self as Line>⟧ in Removed result n (line.waiting self.old) (line.hold self.old) (line.waiting self.new) (line.hold self.new) }
+        ensures kept { let line = ⟦<Self as Line>⟧ in Kept (line.sent self.old) (line.room self.old) (line.sent self.new) (line.room self.new) }
+        ensures hold { let line = ⟦<Self as Line>⟧ in MatchResult result (λ _. line.hold self.new ≡ line.hold self.old + n) (λ _. line.hold self.new ≡ line.hold self.old) }
     {
         if n > self.count {
             return Err(LineRefusal::TooFew);

@@ -1,12 +1,13 @@
 // A line over two buffers of the caller.
 ghost use Rattle.std.specs.Prelude.{◌≡◌, ◌-◌, ◌≤◌, [], length, take};
-ghost use Rattle.line.specs.Ends.{Removed};
+ghost use Rattle.line.specs.Ends.{Removed, Kept};
 ghost use Rattle.line.specs.Places.{span};
 
 use crate::Line;
 use crate::refusal::LineRefusal;
 
 // Bytes are fed into input and sent into output, each place used once.
+// Buffers with counts beside them, since the buffers are the caller's and there is no heap.
 #[derive(Drop)]
 pub struct Tape<'a> {
     input: &'a mut [u8],
@@ -20,10 +21,10 @@ pub struct Tape<'a> {
 impl<'a> Tape<'a> {
     // An empty line that can be fed as many bytes as input has, and sent as many as output has.
     pub fn new(input: &'a mut [u8], output: &'a mut [u8]) -> Tape<'a>
-        ensures waiting { span result.taken result.fed result.input.now ≡ [] }
-        ensures sent { take result.written result.output.now ≡ [] }
-        ensures hold { length result.input.now - result.fed ≡ length input.old }
-        ensures room { length result.output.now - result.written ≡ length output.old }
+        ensures waiting { ⟦<Self as Line>⟧.waiting result ≡ [] }
+        ensures sent { ⟦<Self as Line>⟧.sent result ≡ [] }
+        ensures hold { ⟦<Self as Line>⟧.hold result ≡ length input.old }
+        ensures room { ⟦<Self as Line>⟧.room result ≡ length output.old }
     {
         Tape {
             input,
@@ -61,19 +62,11 @@ impl Line for Tape<'_> {
     }
 
     fn waiting_at(&self, i: usize) -> Option<u8> {
-        if i < self.fed - self.taken {
-            Some(self.input[self.taken + i])
-        } else {
-            None
-        }
+        self.input[self.taken..self.fed].get(i).copied()
     }
 
     fn sent_at(&self, i: usize) -> Option<u8> {
-        if i < self.written {
-            Some(self.output[i])
-        } else {
-            None
-        }
+        self.output[..self.written].get(i).copied()
     }
 
     fn feed(&mut self, b: u8) -> Result<(), LineRefusal> {
@@ -87,9 +80,9 @@ impl Line for Tape<'_> {
     }
 
     fn take(&mut self, n: usize) -> Result<(), LineRefusal>
-        ensures waits { let s = self.old in let t = self.new in Removed result n (span s.taken s.fed s.input.now) (length s.input.now - s.fed) (span t.taken t.fed t.input.now) (length t.input.now - t.fed) }
-        ensures kept { let s = self.old in let t = self.new in (take t.written t.output.now ≡ take s.written s.output.now) × (length t.output.now - t.written ≡ length s.output.now - s.written) }
-        ensures hold { let s = self.old in let t = self.new in length t.input.now - t.fed ≡ length s.input.now - s.fed }
+        ensures waits { let line = ⟦<Self as Line>⟧ in Removed result n (line.waiting self.old) (line.hold self.old) (line.waiting self.new) (line.hold self.new) }
+        ensures kept { let line = ⟦<Self as Line>⟧ in Kept (line.sent self.old) (line.room self.old) (line.sent self.new) (line.room self.new) }
+        ensures hold { let line = ⟦<Self as Line>⟧ in line.hold self.new ≡ line.hold self.old }
     {
         if n > self.fed - self.taken {
             return Err(LineRefusal::TooFew);

@@ -1,15 +1,15 @@
 // Looking at the first bytes that wait and sending a text, over any line.
 ghost use Rattle.std.specs.Prelude.{◌≡◌, ◌≤◌, take};
-ghost use Rattle.line.specs.Ends.{Whole};
+ghost use Rattle.line.specs.Ends.{Whole, Kept};
 
 use crate::Line;
 
 const WINDOW: usize = 8;
 
-// Up to eight bytes: the first len ones.
+// Up to eight bytes: the first len ones. Bytes with a length, since a window is Copy and there is no heap.
 #[derive(Clone, Copy)]
 pub struct Window {
-    bytes: [u8; 8],
+    bytes: [u8; WINDOW],
     len: usize,
     ghost ok: { len ≤ 8 },
 }
@@ -27,19 +27,20 @@ pub fn peek<L: Line>(line: &L) -> Window
     ensures { take result.len result.bytes ≡ take 8 (L.Line.waiting line.now) }
 {
     let mut bytes = [0; WINDOW];
-    for i in 0..WINDOW {
+    for (i, byte) in bytes.iter_mut().enumerate() {
         let Some(b) = line.waiting_at(i) else {
             return Window { bytes, len: i };
         };
-        bytes[i] = b;
+        *byte = b;
     }
     Window { bytes, len: WINDOW }
 }
 
-// Sends the text whole, or nothing where it is longer than the room; answers which.
+// Sends the text whole, or nothing where it is longer than the room; answers which. That is a yes or no and no Result:
+// a text longer than the room is none of the line's refusals, and an error of its own would say no more.
 pub fn send_text<L: Line>(line: &mut L, text: &[u8]) -> bool
     ensures goes { Whole result text.now (L.Line.sent line.old) (L.Line.room line.old) (L.Line.sent line.new) (L.Line.room line.new) }
-    ensures kept { (L.Line.waiting line.new ≡ L.Line.waiting line.old) × (L.Line.hold line.new ≡ L.Line.hold line.old) }
+    ensures kept { Kept (L.Line.waiting line.old) (L.Line.hold line.old) (L.Line.waiting line.new) (L.Line.hold line.new) }
 {
     if text.len() > line.room_left() {
         return false;

@@ -1,10 +1,12 @@
 -- Exact results in 32 bits: what the code works out by the bits of two numbers of 16 bits is the operation on the numbers.
-use Rattle.std.proofs.Common.{◌≡◌, ℕ, suc, ◌*◌, ◌<◌, ◌≤◌, eqb, ℤ, pos, negsuc, ◌+ℤ◌, ◌-ℤ◌, ◌*ℤ◌, Some, None, sym, refl, ap, ◌∙◌, mul-le-mul, div-le_self, arith, w16, w32, SFits, to_z, of_z}
+use Rattle.std.proofs.Common.{◌≡◌, ℕ, suc, ◌*◌, ◌<◌, ◌≤◌, eqb, cond, not, Bool, true, false, ℤ, pos, negsuc, ◌+ℤ◌, ◌-ℤ◌, ◌*ℤ◌, Some, None, sym, refl, ap, ◌∙◌, mul-le-mul, div-le_self, arith, w16, w32, SFits, to_z, of_z}
 use lib.Signed.{quot_z, rem_z, mag, mag_rem}
 use Rattle.std.proofs.lemmas.Int.{ints, to_z-of_z}
+use Rattle.std.specs.Bool.{then_some}
 use Rattle.number.specs.Number.{Kind, Within, int, folded, equal, unless_zero}
+use Rattle.std.proofs.lemmas.Bool.{both_ways}
 use Rattle.std.proofs.lemmas.Bool.Decides.{nat_tests}
-use Rattle.number.proofs.Tests.{equal_yes, equal_no}
+use Rattle.number.proofs.Tests.{equal_yes}
 
 -- The operation on two numbers of 16 bits fits 32 bits.
 abbrev pub Stays : (ℤ → ℤ → ℤ) → Type 0
@@ -65,13 +67,21 @@ compares x y u v p q d e = rw (sym d, sym e) (bits_equal x y p q)
 pub compares-zero : (x u : ℤ) → Within int x → x ≡ u → eqb (of_z w32 x) 0 ≡ equal u (pos 0)
 compares-zero x u p d = rw (sym d) (bits_equal x (pos 0) p (record { least = omega (arith, ints); most = omega (arith, ints) }))
 
--- A divisor that the code finds to be 0, and one that it does not.
-pub zero-gives : (y v n : ℤ) → Within int y → y ≡ v → of_z w32 y ≡ 0 → None ≡ unless_zero v n
-zero-gives y v n p e z =
-    let h : v ≡ pos 0 = sym e ∙ omega (arith, ints) in
-    rw (equal_yes v (pos 0) h) refl
+-- A divisor that is 0 is none.
+by_test : (b : Bool) (n : ℤ) → then_some (not b) n ≡ cond b None (Some n)
+by_test true n = refl
+by_test false n = refl
 
-pub some-gives : (y v r n : ℤ) → y ≡ v → (of_z w32 y ≡ 0 → ⊥) → r ≡ n → Some r ≡ unless_zero v n
-some-gives y v r n e z d =
-    let h : v ≡ pos 0 → ⊥ = λ t. z (ap (of_z w32) (e ∙ t)) in
-    rw (equal_no v (pos 0) h, d) refl
+pub divisor_of : (y v : ℤ) → Within int y → y ≡ v → then_some (not (eqb (of_z w32 y) 0)) (to_z w32 (of_z w32 y)) ≡ unless_zero v v
+divisor_of y v p e = rw (compares-zero y v p e, same y p, e) (by_test (equal v (pos 0)) v)
+
+parted : (b : Bool) (d v : ℤ) → Some d ≡ cond b None (Some v) → (b ≡ false) × (d ≡ v)
+parted true d v e = let z : ◌≡◌ {A = ℕ} 0 1 = cc in absurd (omega arith)
+parted false d v e = (refl, cc)
+
+-- A divisor that is there is the number, and not 0.
+pub some_divisor : (v d : ℤ) → Within int d → Some d ≡ unless_zero v v → (d ≡ v) × (0 < of_z w32 d) × ((n : ℤ) → Some n ≡ unless_zero v n)
+some_divisor v d w e =
+    let p = parted (equal v (pos 0)) d v e in
+    let z : d ≡ pos 0 → ⊥ = λ h. both_ways (equal v (pos 0)) p.0 (equal_yes v (pos 0) (sym p.1 ∙ h)) in
+    (p.1, omega (arith, ints, z), (λ n. rw p.0 refl))

@@ -1,7 +1,9 @@
 -- The first line feed among the first bytes, by its place.
-use Rattle.std.proofs.Common.{◌≡◌, ℕ, zero, suc, ◌<◌, ◌⊎◌, List, [], ◌∷◌, length, get_or, Some, None, refl, inl, inr, arith}
-use Rattle.std.proofs.lemmas.Bool.{eq-eqb, ne_eqb, cases_eq}
-use Rattle.number.specs.Reading.{feed_among}
+use Rattle.std.proofs.Common.{◌≡◌, ℕ, zero, suc, ◌+◌, ◌<◌, ◌⊎◌, eqb, ltb, Bool, true, false, cond, Option, take, List, [], ◌∷◌, length, get_or, Some, None, refl, ap, ◌∙◌, ◌≤◌, inl, inr, arith}
+use Rattle.std.proofs.lemmas.Bool.{lt-ltb, le-ltb, cases_lt, eq-eqb, ne_eqb, cases_eq}
+use Rattle.std.proofs.lemmas.Bool.Decides.{nat_tests}
+use Rattle.std.specs.List.{position, position_or_len}
+use Rattle.number.specs.Reading.{feed_among, one_on}
 
 -- None of the bytes below n is a line feed.
 abbrev pub Absent : ℕ → List ℕ → Type 0
@@ -55,3 +57,21 @@ pub tells-feed : (n : ℕ) (bs : List ℕ) → Told n bs
 tells-feed zero bs = inr (λ k p. absurd (omega arith))
 tells-feed (suc n) [] = inr (λ k p q. absurd (omega arith))
 tells-feed (suc n) (b ∷ bs) = grown b n bs (cases_eq b 10) (tells-feed n bs)
+
+-- One place further on.
+further : (i j l : ℕ) → j ≡ suc i → (i < l) ⊎ (l ≤ i) → cond (ltb j (suc l)) (Some j) None ≡ one_on (cond (ltb i l) (Some i) None)
+further i j l e (inl h) = rw (e, lt-ltb i l h, lt-ltb (suc i) (suc l) (omega arith)) refl
+further i j l e (inr h) = rw (e, le-ltb i l h, le-ltb (suc i) (suc l) (omega arith)) refl
+
+first_place : (b : ℕ) (xs : List ℕ) (t : Bool) → eqb b 10 ≡ t → position (λ x. eqb x 10) (b ∷ xs) ≡ cond (eqb b 10) (Some 0) (one_on (position (λ x. eqb x 10) xs))
+first_place b xs true e = rw e (grind (arith, nat_tests))
+first_place b xs false e =
+    let i = position_or_len (λ x. eqb x 10) xs in
+    rw e (further i (1 + i) (length xs) (omega arith) (cases_lt i (length xs)))
+
+-- The first place of a line feed among the first n bytes.
+pub by_position : (n : ℕ) (bs : List ℕ) → position (λ x. eqb x 10) (take n bs) ≡ feed_among n bs
+unfolding feed_among
+by_position zero bs = refl
+by_position (suc n) [] = refl
+by_position (suc n) (b ∷ bs) = first_place b (take n bs) (eqb b 10) refl ∙ ap (λ (o : Option ℕ). cond (eqb b 10) (Some 0) (one_on o)) (by_position n bs)

@@ -5,7 +5,7 @@ use Rattle.number.specs.declared.text.Reading.{Reading}
 use Rattle.number.specs.declared.text.Reading.TheVariants.{Wait, Refused, Took}
 use Rattle.number.specs.Number.{Kind, Within, Cells, in_range}
 
-abbrev one_on : Option ℕ → Option ℕ
+abbrev pub one_on : Option ℕ → Option ℕ
 one_on None = None
 one_on (Some i) = Some (suc i)
 

@@ -1,7 +1,9 @@
 // Arithmetic on cells of 16 bits, once for every kind.
 // An operation folds its operands into the kind, works out the exact result in 32 bits and folds that.
-ghost use Rattle.std.specs.Prelude.{◌≡◌};
-ghost use Rattle.number.specs.Number.{folded, Folds, Within, int, sum, difference, product, negation, quotient, remainder};
+// The operations differ in the operator alone: one function for all, with a closure for the operator, would be no plainer,
+// since each would still be a function that calls it, and the closure would need a clause that its result fits 32 bits.
+ghost use Rattle.std.specs.Prelude.{◌≡◌, IfSome};
+ghost use Rattle.number.specs.Number.{folded, Folds, Within, int, sum, difference, product, negation, quotient, remainder, unless_zero};
 
 use crate::kind::NumberKind;
 
@@ -10,12 +12,11 @@ pub fn fold<K: NumberKind>(n: i32) -> i16
     ensures value { result ≡ folded K.NumberKind.kind n }
     ensures law { Folds K.NumberKind.kind n result }
 {
-    let span = K::count();
-    let rest = n.rem_euclid(span);
-    if rest <= K::highest() {
+    let rest = n.rem_euclid(K::SPAN);
+    if rest <= K::HIGH {
         rest as i16
     } else {
-        (rest - span) as i16
+        (rest - K::SPAN) as i16
     }
 }
 
@@ -25,6 +26,15 @@ pub(crate) fn operand<K: NumberKind>(cell: i16) -> i32
     ensures small { Within int result }
 {
     i32::from(fold::<K>(i32::from(cell)))
+}
+
+// The divisor that a cell holds, or None where it is zero.
+fn nonzero<K: NumberKind>(cell: i16) -> Option<i32>
+    ensures value { result ≡ unless_zero (folded K.NumberKind.kind cell) (folded K.NumberKind.kind cell) }
+    ensures small { IfSome result (Within int) }
+{
+    let divisor = operand::<K>(cell);
+    (divisor != 0).then_some(divisor)
 }
 
 pub fn add<K: NumberKind>(a: i16, b: i16) -> i16
@@ -55,10 +65,7 @@ pub fn neg<K: NumberKind>(a: i16) -> i16
 pub fn div<K: NumberKind>(a: i16, b: i16) -> Option<i16>
     ensures { result ≡ quotient K.NumberKind.kind (folded K.NumberKind.kind a) (folded K.NumberKind.kind b) }
 {
-    let divisor = operand::<K>(b);
-    if divisor == 0 {
-        return None;
-    }
+    let divisor = nonzero::<K>(b)?;
     Some(fold::<K>(operand::<K>(a) / divisor))
 }
 
@@ -66,9 +73,6 @@ pub fn div<K: NumberKind>(a: i16, b: i16) -> Option<i16>
 pub fn rem<K: NumberKind>(a: i16, b: i16) -> Option<i16>
     ensures { result ≡ remainder K.NumberKind.kind (folded K.NumberKind.kind a) (folded K.NumberKind.kind b) }
 {
-    let divisor = operand::<K>(b);
-    if divisor == 0 {
-        return None;
-    }
+    let divisor = nonzero::<K>(b)?;
     Some(fold::<K>(operand::<K>(a) % divisor))
 }

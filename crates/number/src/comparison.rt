@@ -1,4 +1,6 @@
 // Comparison of cells, once for every kind: each operand is first folded into the kind.
+// The six differ in the operator alone: one function for all, with a closure for the operator, would be no plainer, since
+// each would still be a function that calls it.
 ghost use Rattle.std.specs.Prelude.{◌≡◌};
 ghost use Rattle.number.specs.Number.{folded, equal, unequal, less, greater, at_most, at_least};
 

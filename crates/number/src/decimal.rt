@@ -1,12 +1,15 @@
 // Writing a number as decimal text.
-ghost use Rattle.std.specs.Prelude.{◌≡◌, ◌<◌, ◌≤◌, drop, decimal as unsigned};
+ghost use Rattle.std.specs.Prelude.{◌≡◌, ◌≤◌, drop};
 ghost use Rattle.number.specs.Decimal.{decimal};
 ghost use Rattle.number.specs.Reading.{ReadBack};
+
+use itoa::write_digits;
 
 // The longest text, -32768, has six bytes.
 const LONGEST: usize = 6;
 
-// A text of at most six bytes: those from start on.
+// A text of at most six bytes: those from start on, since digits are written from the last one to the first.
+// A text that is built from the front, as arrayvec's ArrayString, would have a call that can fail.
 #[derive(Clone, Copy)]
 pub struct Text {
     bytes: [u8; 6],
@@ -27,29 +30,11 @@ pub fn write(n: i16) -> Text
     ensures value { drop result.start result.bytes ≡ decimal n }
     ensures back { ReadBack n (drop result.start result.bytes) }
 {
-    let mut text = digits_of(n.unsigned_abs());
-    if n >= 0 {
-        return text;
-    }
-    text.start -= 1;
-    text.bytes[text.start] = b'-';
-    text
-}
-
-// The digits of a number, the last one first; at most five, so that the first place stays free.
-fn digits_of(m: u16) -> Text
-    ensures value { drop result.start result.bytes ≡ unsigned m }
-    ensures free { 0 < result.start }
-{
     let mut bytes = [0; LONGEST];
-    let mut start = LONGEST;
-    let mut rest = m;
-    while rest >= 10 {
+    let mut start = write_digits(u64::from(n.unsigned_abs()), &mut bytes, LONGEST);
+    if n < 0 {
         start -= 1;
-        bytes[start] = b'0' + (rest % 10) as u8;
-        rest /= 10;
+        bytes[start] = b'-';
     }
-    start -= 1;
-    bytes[start] = b'0' + rest as u8;
     Text { bytes, start }
 }

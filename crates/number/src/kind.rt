@@ -1,10 +1,11 @@
 // The kinds of number.
-ghost use Rattle.std.specs.Prelude.{◌≡◌, pos};
+ghost use Rattle.std.specs.Prelude.{◌≡◌, ℤ, pos, refl};
 ghost use Rattle.number.specs.Number.{Kind, Cells, Folding, int, byte};
-ghost use Rattle.number.specs.Folding.{int_cells, byte_cells};
-ghost use Rattle.number.specs.Folding as FoldingLaw;
+// An impl names the proof of a law, and names of this crate only what stands in specs/.
+ghost use Rattle.number.specs.Folding.{every_kind_folds, int_cells, byte_cells};
 
-// A kind of number. In code over any kind the constants are known by the three functions.
+// A kind of number: its lowest and its highest number, and how many there are. Each impl proves the last three members:
+// that the constants are the kind's, that its numbers fit a cell, and the law of folding.
 pub trait NumberKind {
     const LOW: i32;
 
@@ -12,16 +13,15 @@ pub trait NumberKind {
 
     const SPAN: i32;
 
+    ghost LOW: { ℤ };
+
+    ghost HIGH: { ℤ };
+
+    ghost SPAN: { ℤ };
+
     ghost kind: { Kind };
 
-    fn lowest() -> i32
-        ensures { result ≡ kind.low };
-
-    fn highest() -> i32
-        ensures { result ≡ kind.high };
-
-    fn count() -> i32
-        ensures { result ≡ pos kind.span };
+    ghost constants: { (LOW ≡ kind.low) × (HIGH ≡ kind.high) × (SPAN ≡ pos kind.span) };
 
     ghost cells: { Cells kind };
 
@@ -39,23 +39,19 @@ impl NumberKind for Int {
 
     const SPAN: i32 = 65536;
 
+    ghost LOW = { int.low };
+
+    ghost HIGH = { int.high };
+
+    ghost SPAN = { pos int.span };
+
     ghost kind = { int };
+
+    ghost constants = { (refl, refl, refl) };
 
     ghost cells = { int_cells };
 
-    ghost folding = { FoldingLaw.folding int int_cells };
-
-    fn lowest() -> i32 {
-        Self::LOW
-    }
-
-    fn highest() -> i32 {
-        Self::HIGH
-    }
-
-    fn count() -> i32 {
-        Self::SPAN
-    }
+    ghost folding = { every_kind_folds int int_cells };
 }
 
 impl NumberKind for Byte {
@@ -65,21 +61,17 @@ impl NumberKind for Byte {
 
     const SPAN: i32 = 256;
 
+    ghost LOW = { byte.low };
+
+    ghost HIGH = { byte.high };
+
+    ghost SPAN = { pos byte.span };
+
     ghost kind = { byte };
+
+    ghost constants = { (refl, refl, refl) };
 
     ghost cells = { byte_cells };
 
-    ghost folding = { FoldingLaw.folding byte byte_cells };
-
-    fn lowest() -> i32 {
-        Self::LOW
-    }
-
-    fn highest() -> i32 {
-        Self::HIGH
-    }
-
-    fn count() -> i32 {
-        Self::SPAN
-    }
+    ghost folding = { every_kind_folds byte byte_cells };
 }

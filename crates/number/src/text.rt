@@ -4,7 +4,7 @@ ghost use Rattle.number.specs.Reading.{feed_among, numeral, taken, reading, Sett
 
 use crate::kind::NumberKind;
 
-// What a reading of a number came to.
+// What a reading of a number came to: three answers, and so neither an Option nor a Result.
 #[derive(Clone, Copy, PartialEq, Eq, Debug)]
 pub enum Reading {
     // More bytes are needed before the text can be judged.
@@ -42,12 +42,7 @@ fn line_feed(bytes: &[u8]) -> Option<usize>
     ensures place { result ≡ feed_among 8 bytes.now }
     ensures inside { IfSome result (λ i. (i < 8) × (i < length bytes.now)) }
 {
-    for i in 0..bytes.len().min(WINDOW) {
-        if bytes[i] == LINE_FEED {
-            return Some(i);
-        }
-    }
-    None
+    bytes.iter().take(WINDOW).position(|b| *b == LINE_FEED)
 }
 
 // The number that a text of digits writes. Seven digits are below ten million.
@@ -60,7 +55,7 @@ fn numeral_of(text: &[u8]) -> Option<u32>
     }
     let mut value = 0;
     for b in text {
-        if *b < b'0' || *b > b'9' {
+        if !b.is_ascii_digit() {
             return None;
         }
         value = value * 10 + u32::from(*b - b'0');
@@ -73,16 +68,10 @@ fn judge<K: NumberKind>(number: Option<u32>, count: usize) -> Reading
     ensures { result ≡ taken K.NumberKind.kind count number }
 {
     match number {
-        Some(n) => {
-            if n <= K::highest() as u32 {
-                Reading::Took {
-                    value: n as i16,
-                    count,
-                }
-            } else {
-                Reading::Refused
-            }
-        }
-        None => Reading::Refused,
+        Some(n) if n <= K::HIGH as u32 => Reading::Took {
+            value: n as i16,
+            count,
+        },
+        _ => Reading::Refused,
     }
 }

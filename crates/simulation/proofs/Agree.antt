@@ -18,7 +18,7 @@ use Rattle.number.specs.Decimal.{decimal}
 use Rattle.number.specs.Reading.{numeral, taken, judged, feed_among, reading}
 use Rattle.number.specs.declared.text.Reading.{Reading}
 use Rattle.number.specs.declared.text.Reading.TheVariants.{Wait, Refused, Took}
-use Rattle.number.specs.Folding.{folded-within}
+use Rattle.number.proofs.Remainders.{folded-within}
 use Rattle.language.specs.Measures.{operand_kind, format_kind}
 use Rattle.language.specs.Rules.{Operates}
 use Rattle.language.specs.Operators.{numbers_of, apply_unary, apply_binary, compares, finds, text_of}

@@ -1,23 +1,21 @@
-use Rattle.std.proofs.Common.{◌≡◌, arith, rules}
+use Rattle.std.proofs.Common.{◌≡◌, ◌∙◌, ap, rules, Some}
 use lib.Signed.{quot_z}
-use Rattle.std.proofs.lemmas.Int.{ints}
-use Rattle.number.specs.Number.{folded}
-use Rattle.number.proofs.Exact.{gives, by_bits, zero-gives, some-gives, quotient-stays}
+use Rattle.number.specs.Number.{folded, unless_zero}
+use Rattle.number.proofs.Exact.{gives, by_bits, some_divisor, quotient-stays}
 use Rattle.number.proofs.arithmetic.div.Goals as goal
-
-pub returns-then-divisor-eq0 : goal.returns-then-divisor-eq0
-returns-then-divisor-eq0 g c =
-    let y : c.operand-divisor.result ≡ folded g.K.NumberKind.kind c.args.b = search rules in
-    zero-gives c.operand-divisor.result _ _ c.operand-divisor.ensures.small y c.if-divisor-eq0.true
 
 pub nonzero_div-operand : goal.nonzero_div-operand
 nonzero_div-operand g c =
-    (omega (arith, ints), by_bits quot_z quotient-stays c.operand.result c.operand-divisor.result c.operand.ensures.small c.operand-divisor.ensures.small)
+    let d = c.in_ok-divisor.ensures in
+    let p = some_divisor _ c.in_ok-divisor.divisor d.small d.value in
+    (p.1, by_bits quot_z quotient-stays c.operand.result c.in_ok-divisor.divisor c.operand.ensures.small d.small)
 
 pub returns : goal.returns
 returns g c =
     let k = g.K.NumberKind.kind in
+    let d = c.in_ok-divisor in
+    let v : Some d.divisor ≡ unless_zero (folded k c.args.b) (folded k c.args.b) = search rules in
+    let p = some_divisor _ d.divisor d.ensures.small v in
     let x : c.operand.result ≡ folded k c.args.a = search rules in
-    let y : c.operand-divisor.result ≡ folded k c.args.b = search rules in
-    let d = gives quot_z quotient-stays k c.operand.result c.operand-divisor.result _ _ c.fold.result c.operand.ensures.small c.operand-divisor.ensures.small x y (search rules) c.fold.ensures.value in
-    some-gives c.operand-divisor.result _ _ _ y c.if-divisor-eq0.false d
+    let q = gives quot_z quotient-stays k c.operand.result d.divisor _ _ c.fold.result c.operand.ensures.small d.ensures.small x p.0 (search rules) c.fold.ensures.value in
+    ap Some q ∙ p.2 _

@@ -2,6 +2,6 @@ use Rattle.std.proofs.Common.{rules}
 use Rattle.line.specs.Places.{around}
 use Rattle.line.proofs.ring.Ring.new.Goals as goal
 
-pub returns : goal.returns
+pub returns-clause-waiting : goal.returns-clause-waiting
 unfolding around
-returns c = search rules
+returns-clause-waiting c = search rules

@@ -1,6 +1,6 @@
-use Rattle.std.proofs.Common.{arith, rules}
+use Rattle.std.proofs.Common.{arith}
 use Rattle.line.proofs.Rounds.{around_more}
 use Rattle.line.proofs.ring.RingLine.feed.Goals as goal
 
-pub returns : goal.returns
-returns c = record { waits = (grind (arith, around_more), omega arith); kept = search rules }
+pub returns-clause-waits : goal.returns-clause-waits
+returns-clause-waits c = (grind (arith, around_more), omega arith)
