@@ -1,4 +1,3 @@
-pub mod Aiming
 pub mod Blocks
 pub mod Bounds
 pub mod Lengths

@@ -1,20 +1,16 @@
 // The loops that are open around a statement.
-ghost use Rattle.std.specs.Prelude.{◌≡◌, ◌≤◌, length};
+use arrayvec::ArrayVec;
 
 // A loop: its name, the address of its block's first word, and the address behind its own word.
-#[derive(Clone, Copy)]
+#[derive(Clone, Copy, Default)]
 pub struct Target {
     pub name: u16,
     pub start: u32,
     pub end: u32,
 }
 
-// The open loops, the innermost last: those below the count. A loop takes two of the 128 levels, so there are never
-// more than 64.
+// The open loops, the innermost last. A loop takes two of the 128 levels, so there are never more than 64.
 #[derive(Drop)]
 pub struct Targets {
-    pub items: [Target; 64],
-    pub count: usize,
-    ghost few: { count ≤ 64 },
-    ghost long: { length items ≡ 64 },
+    pub items: ArrayVec<Target, 64>,
 }
