@@ -5,6 +5,7 @@ mod decode;
 mod read;
 mod record;
 mod shape;
+mod sort;
 mod view;
 
 pub use read::read_layout;
@@ -13,4 +14,5 @@ pub use shape::{
     Binary, Comparison, Condition, Expression, Format, Junction, Kind, Scope, Shape, Statement,
     Unary,
 };
+pub use sort::WrongSort;
 pub use view::Table;

@@ -1,5 +1,5 @@
-// What a walk finds of a subtree.
-use table::{Function, Kind};
+// What a walk goes over, and what it finds of a subtree.
+use table::{Function, Kind, Table};
 
 // Of an expression: its kind, its height, and its words of stack code.
 #[derive(Clone, Copy)]
@@ -28,6 +28,13 @@ pub struct Arguments {
 pub struct Context {
     pub own: Function,
     pub main: Option<Function>,
+}
+
+// A function whose body is read: the table where it stands, and the records that its nodes may refer to.
+#[derive(Clone, Copy)]
+pub struct Body<'a> {
+    pub table: &'a Table<'a>,
+    pub context: Context,
 }
 
 // What is known of a table that passes: its counts, and how many words its translation has.

@@ -9,6 +9,7 @@ mod found;
 mod loops;
 mod measure;
 mod opens;
+mod operators;
 mod refer;
 mod statements;
 mod uses;
@@ -16,5 +17,6 @@ mod values;
 mod whole;
 
 pub use fault::CheckFault;
-pub use found::{Arguments, Context, Found, Passed, Size};
+pub use found::{Arguments, Body, Context, Found, Passed, Size};
+pub use operators::{format_kind, operand_kind, unary_kind, unary_words};
 pub use whole::walk_table;

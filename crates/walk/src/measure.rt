@@ -3,9 +3,10 @@ ghost use Rattle.std.specs.Prelude.{◌≡◌, ◌+◌, ◌<◌, max, ◌&&◌};
 ghost use Rattle.language.specs.Measures.{operand_kind, unary_kind, unary_words};
 ghost use Rattle.walk.specs.Walk.{found, size, sized, stacked, beside, topped, judged, same_kind, operates, added};
 
-use crate::arrive::{same_kind, takes_kind, unary_kinds};
+use crate::arrive::{same_kind, takes_kind};
 use crate::fault::CheckFault;
 use crate::found::{Arguments, Found, Size};
+use crate::operators::{operand_kind, unary_kind, unary_words};
 use table::{Binary, Kind, Unary};
 
 // A node that gives a value of that kind and has no children.
@@ -29,14 +30,13 @@ pub(crate) fn operation_on_one(
     requires { a.words < 65535 }
     ensures { result ≡ judged at (same_kind (operand_kind operator) a.kind) (found (unary_kind operator) a.height (a.words + unary_words operator), next) }
 {
-    let (operand, kind, words) = unary_kinds(operator);
-    if !same_kind(operand, a.kind) {
+    if !same_kind(operand_kind(operator), a.kind) {
         return Err(CheckFault::Child(at));
     }
     let found = Found {
-        kind,
+        kind: unary_kind(operator),
         height: a.height,
-        words: a.words + words,
+        words: a.words + unary_words(operator),
     };
     Ok((found, next))
 }

@@ -4,44 +4,52 @@ ghost use Rattle.std.specs.Option.{ok_or};
 ghost use Rattle.std.specs.List.{slice_get};
 ghost use Rattle.table.specs.Flow.{mapped, passing};
 ghost use Rattle.table.specs.View.{view};
-ghost use Rattle.language.specs.Rules.{slot_kind, parameter_kinds};
+ghost use Rattle.language.specs.Rules.{slot_kind, called, parameter_kinds};
 ghost use Rattle.walk.specs.Bodies.{signature_of, signature_in};
 ghost use Rattle.walk.specs.Walk.{called_at};
 ghost use Rattle.walk.specs.declared.fault.CheckFault.TheVariants.{Variable};
 
 use crate::fault::CheckFault;
-use crate::found::Context;
-use table::{Function, Kind, Scope, Table};
+use crate::found::{Body, Context};
+use table::{Function, Kind, Scope};
 
 impl Context {
-    // The kind of a variable; the node at `at` is refused if there is no such variable.
-    pub(crate) fn variable_kind(
-        &self,
-        scope: Scope,
-        slot: u16,
-        at: usize,
-    ) -> Result<Kind, CheckFault>
+    // The kind of a variable, or none if there is no such variable.
+    pub fn variable_kind(&self, scope: Scope, slot: u16) -> Option<Kind>
+        ensures { result ≡ slot_kind (signature_of self.now.own) (mapped signature_of self.now.main) scope slot }
+    {
+        match scope {
+            Scope::Own => self.own.variable(slot),
+            Scope::Main => self.main?.variable(slot),
+        }
+    }
+
+    // The same for the node at `at`, which is refused if there is no such variable.
+    pub(crate) fn kind_at(&self, scope: Scope, slot: u16, at: usize) -> Result<Kind, CheckFault>
         ensures { result ≡ ok_or (slot_kind (signature_of self.now.own) (mapped signature_of self.now.main) scope slot) (Variable at) }
     {
-        let found = match scope {
-            Scope::Own => self.own.variable(slot),
-            Scope::Main => match self.main {
-                Some(main) => main.variable(slot),
-                None => None,
-            },
-        };
-        found.ok_or(CheckFault::Variable(at))
+        self.variable_kind(scope, slot)
+            .ok_or(CheckFault::Variable(at))
     }
 }
 
-// The function that the call at `at` names: one that is there, but not main.
-pub(crate) fn function_called(t: &Table, f: u16, at: usize) -> Result<Function, CheckFault>
-    ensures { passing signature_of result ≡ called_at (signature_in (view t.now)) f at }
-{
-    if f == 0 {
-        return Err(CheckFault::Function(at));
+impl Body<'_> {
+    // The function that a call names: one that is there, but not main.
+    pub fn called(&self, f: u16) -> Option<Function>
+        ensures { mapped signature_of result ≡ called (signature_in (view self.now.table.now)) f }
+    {
+        if f == 0 {
+            return None;
+        }
+        self.table.function(usize::from(f))
     }
-    t.function(usize::from(f)).ok_or(CheckFault::Function(at))
+
+    // The same for the call at `at`, which is refused if there is no such function.
+    pub(crate) fn called_at(&self, f: u16, at: usize) -> Result<Function, CheckFault>
+        ensures { passing signature_of result ≡ called_at (signature_in (view self.now.table.now)) f at }
+    {
+        self.called(f).ok_or(CheckFault::Function(at))
+    }
 }
 
 // The kind of parameter i of a function, or none if there is no such parameter.

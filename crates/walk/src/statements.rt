@@ -6,13 +6,14 @@ ghost use Rattle.walk.specs.Names.{names};
 ghost use Rattle.walk.specs.Walk.{expr_from, cond_from, stmt_at, stmt_from, block_from, leaves, exits};
 ghost use Rattle.table.specs.declared.shape.Statement.TheVariants.{Loop as Repeat};
 
-use crate::arrive::{arrive, format_kind};
+use crate::arrive::arrive;
 use crate::conditions::cond;
 use crate::fault::CheckFault;
 use crate::found::{Context, Size};
 use crate::loops::Loops;
 use crate::measure::side_by_side;
 use crate::opens::{LoopGuard, push_loop};
+use crate::operators::format_kind;
 use crate::uses::{one_value, perform};
 use table::{Kind, Shape, Statement, Table};
 
@@ -93,7 +94,7 @@ fn stmt_of(
             Ok((size, at + 1))
         }
         Statement::Assign(scope, slot) => {
-            let kind = cx.variable_kind(scope, slot, at)?;
+            let kind = cx.kind_at(scope, slot, at)?;
             one_value(t, cx, kind, at, left)
         }
         Statement::Perform(f) => perform(t, cx, f, at, left),

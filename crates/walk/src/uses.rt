@@ -7,9 +7,8 @@ ghost use Rattle.walk.specs.Bodies.{env_of, signature_in};
 ghost use Rattle.walk.specs.Walk.{expr_from, args_from, no_arguments, called_at, no_result, judged, same_kind, stacked, topped, size};
 
 use crate::fault::CheckFault;
-use crate::found::{Context, Size};
+use crate::found::{Body, Context, Size};
 use crate::measure::{called_with, comparison, topped_value};
-use crate::refer::function_called;
 use crate::values::{arguments, expr};
 use table::{Kind, Table};
 
@@ -57,7 +56,11 @@ pub(crate) fn perform(
     ensures is { result ≡ onward (called_at (signature_in (view t.now)) f at) (λ g. onward (no_result at g.result) (λ _. onward (args_from (expr_from (view t.now) (env_of (view t.now) cx.now) left) (parameter_kinds g) 0 no_arguments (at + 1)) (λ q. judged at q.0.fit (size q.0.size.height (q.0.size.words + 1), q.1)))) }
     ensures bound { IfOk result (λ p. (at < p.1) × (p.0.height + at ≤ p.1) × (p.0.words + at ≤ p.1) × (p.1 ≤ t.now.nodes)) }
 {
-    let callee = function_called(t, f, at)?;
+    let body = Body {
+        table: &*t,
+        context: *cx,
+    };
+    let callee = body.called_at(f, at)?;
     if callee.result.is_some() {
         return Err(CheckFault::Function(at));
     }

@@ -5,11 +5,12 @@ ghost use Rattle.language.specs.Rules.{parameter_kinds};
 ghost use Rattle.walk.specs.Bodies.{env_of, signature_of};
 ghost use Rattle.walk.specs.Walk.{expr_at, expr_from, args_from, no_arguments};
 
-use crate::arrive::{arrive, format_kind};
+use crate::arrive::arrive;
 use crate::fault::CheckFault;
-use crate::found::{Arguments, Context, Found, Size};
+use crate::found::{Arguments, Body, Context, Found, Size};
 use crate::measure::{add_argument, leaf, operation_on_one, operation_on_two, value_of_call};
-use crate::refer::{function_called, parameter_kind};
+use crate::operators::format_kind;
+use crate::refer::parameter_kind;
 use table::{Expression, Function, Shape, Table};
 
 // An expression: its kind, height and words, and the next node's place.
@@ -46,7 +47,7 @@ fn expr_of(
     match shape {
         Expression::Constant(kind, _) => Ok((leaf(kind), at + 1)),
         Expression::Variable(scope, slot) => {
-            let kind = cx.variable_kind(scope, slot, at)?;
+            let kind = cx.kind_at(scope, slot, at)?;
             Ok((leaf(kind), at + 1))
         }
         Expression::Unary(operator) => {
@@ -59,7 +60,11 @@ fn expr_of(
             operation_on_two(operator, a, b, next, at)
         }
         Expression::Call(f) => {
-            let callee = function_called(t, f, at)?;
+            let body = Body {
+                table: &*t,
+                context: *cx,
+            };
+            let callee = body.called_at(f, at)?;
             let Some(kind) = callee.result else {
                 return Err(CheckFault::Function(at));
             };
