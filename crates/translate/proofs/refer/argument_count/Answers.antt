@@ -14,7 +14,7 @@ counted o ks n e l = subst (λ (xs : List Kind). Counts xs n) (sym e) (subst (λ
 
 pub returns-in-Some : goal.returns-in-Some
 returns-in-Some c =
-    counted (called (signature_in (view c.args.t.now)) c.args.f) (parameter_kinds (signature_of c.in-Some.function)) c.min.result (search rules) (search (rules, parameters-many))
+    counted (called (signature_in (view c.args.body.now.table.now)) c.args.f) (parameter_kinds (signature_of c.in-Some.function)) c.min.result (search rules) (search (rules, parameters-many))
 
 pub returns-in-None : goal.returns-in-None
-returns-in-None c = counted (called (signature_in (view c.args.t.now)) c.args.f) [] 0 (search rules) refl
+returns-in-None c = counted (called (signature_in (view c.args.body.now.table.now)) c.args.f) [] 0 (search rules) refl
