@@ -1,12 +1,8 @@
 -- Words written one after another.
-use Rattle.std.proofs.Common.{◌≡◌, ℕ, ◌+◌, ◌-◌, ◌≤◌, List, [], ◌++◌, length, take, drop, sym, refl, ap, ◌∙◌, append_assoc, append-nil, arith}
-use Rattle.std.proofs.Math.Seq.{take-length}
+use Rattle.std.proofs.Common.{◌≡◌, ℕ, ◌+◌, ◌-◌, ◌≤◌, List, ◌++◌, length, take, drop, sym, ap, ◌∙◌, append_assoc, arith}
 use Rattle.std.proofs.lemmas.List.{drop-drop}
 use Rattle.translate.specs.Written.{Wrote, Writes}
 use Rattle.translate.specs.declared.write.Writer.{Writer}
-
-pub wrote_none : (h : ℕ) (a : List ℕ) → Wrote h h a a []
-wrote_none h a = record { out = sym (append-nil (take h a)); rest = refl; on = omega arith }
 
 pub wrote_then : {h m e : ℕ} {a b c ws us : List ℕ} → Wrote h m a b ws → Wrote m e b c us → Wrote h e a c (ws ++ us)
 wrote_then {h} {m} {e} {a} {b} {c} {ws} {us} p q =
@@ -44,9 +40,6 @@ pub record Remains (old now : Writer) (n : ℕ) (rest : List ℕ) (m : ℕ) (all
   pub length : length now.code.now ≡ length old.code.now
   pub same : now.code.ghost_name ≡ old.code.ghost_name
 
-pub remains_all : (w : Writer) (n : ℕ) (ws : List ℕ) → Remains w w n ws n ws
-remains_all w n ws = record { out = refl; kept = refl; on = omega arith; many = refl; length = refl; same = refl }
-
 pub remains_more : {old mid now : Writer} {n k m : ℕ} {ws rest all : List ℕ} → Remains old mid (k + n) (ws ++ rest) m all → Writes mid now k ws → Remains old now n rest m all
 remains_more {old} {mid} {now} {n} {k} {m} {ws} {rest} {all} p q =
     let w = q.words in
@@ -64,22 +57,3 @@ remains_more {old} {mid} {now} {n} {k} {m} {ws} {rest} {all} p q =
         let n : mid.here + (now.here - mid.here) ≡ now.here = omega (arith, q.many) in
         let x = drop-drop (now.here - mid.here) mid.here mid.code.now in
         let y = drop-drop (now.here - mid.here) mid.here old.code.now in let z = p.kept in cc
-
-pub remains_none : {old now : Writer} {m : ℕ} {all : List ℕ} → Remains old now 0 [] m all → Writes old now m all
-remains_none {old} {now} p =
-    record {
-      words = record { out = sym (append-nil (take now.here now.code.now)) ∙ p.out; rest = p.kept; on = p.on };
-      many = omega (arith, p.many);
-      length = p.length;
-      same = p.same;
-    }
-
--- words and then words fill a memory
-pub writes_all : (old mid new : Writer) (n m : ℕ) (ws us : List ℕ) → old.here ≡ 0 → length old.code.now ≡ n + m → Writes old mid n ws → Writes mid new m us →
-    new.code.now ≡ ws ++ us
-writes_all old mid new n m ws us z full p q =
-    let w = writes_two p q refl refl in
-    let e : new.here ≡ length new.code.now = omega (arith, w.many, w.length) in
-    let a : take new.here new.code.now ≡ new.code.now = rw e (take-length new.code.now) in
-    let b : take old.here old.code.now ≡ [] = rw z in
-    sym a ∙ w.words.out ∙ ap (λ (l : List ℕ). l ++ (ws ++ us)) b

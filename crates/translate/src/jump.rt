@@ -87,7 +87,8 @@ fn stray(body: &Body, at: u16, left: u8, sense: bool, target: u32, out: &mut Wri
     at
 }
 
-// Writes the words that jump to the target when the condition at a node holds: the next node's place.
+// Writes the words that jump to the target when the condition at a node holds: the next node's place. For each sense
+// there is a translator, a rule of the project: `not` has no word, there one calls the other.
 #[cycle(jump_if_false_jump_if_true_left_side)]
 pub(crate) fn jump_if_true(body: &Body, at: u16, left: u8, target: u32, out: &mut Writer) -> u16
     requires { HasRoom out.old (words_c (cond_in body.now left at).0) }

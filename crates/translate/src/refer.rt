@@ -13,18 +13,15 @@ use walk::Body;
 pub(crate) fn result_kind(body: &Body, f: u16) -> Kind
     ensures { result ≡ result_or (called (signature_in (view body.now.table.now)) f) }
 {
-    match body.called(f) {
-        Some(function) => function.result.unwrap_or(Kind::Int),
-        None => Kind::Int,
-    }
+    body.called(f)
+        .and_then(|function| function.result)
+        .unwrap_or(Kind::Int)
 }
 
 // How many arguments a call of a function has.
 pub(crate) fn argument_count(body: &Body, f: u16) -> u8
     ensures { Counts (kinds_or (called (signature_in (view body.now.table.now)) f)) result }
 {
-    match body.called(f) {
-        Some(function) => function.parameters.min(function.variables),
-        None => 0,
-    }
+    body.called(f)
+        .map_or(0, |function| function.parameters.min(function.variables))
 }
