@@ -1,5 +1,5 @@
 -- The functions that are read off a program's table are the program's, and their words are its code.
-use Rattle.std.proofs.Common.{◌≡◌, ℕ, ◌+◌, ◌-◌, ◌*◌, ◌≤◌, cond, eqb, List, [], ◌∷◌, ◌++◌, length, drop, Some, None, unwrap_or, sym, refl, ap, ◌∙◌, arith, take-append-drop}
+use Rattle.std.proofs.Common.{◌≡◌, ℕ, ◌+◌, ◌*◌, ◌≤◌, cond, eqb, List, [], ◌∷◌, ◌++◌, length, Some, None, unwrap_or, sym, refl, ap, ◌∙◌, arith}
 use Rattle.table.specs.View.{View, function_of}
 use Rattle.table.specs.declared.record.Function.{Function as Record}
 use Rattle.language.specs.Tree.{Function, Program, Signature, Block}
@@ -19,11 +19,7 @@ use Rattle.checker.proofs.Programs.{spells-from, program-bodied, program_fits, p
 use Rattle.checker.proofs.Readback.{block_back}
 use Rattle.translate.specs.Code.{code_entries, code_bodies, code_p}
 use Rattle.translate.specs.Functions.{blank, context_in, body_at, functions_from}
-use Rattle.translate.specs.Translated.{Coded}
-use Rattle.translate.specs.Written.{Wrote}
 use Rattle.translate.proofs.Bounds.{few_words}
-use Rattle.translate.proofs.Lengths.{long_code}
-use Rattle.translate.proofs.Writes.{wrote_then}
 
 module _ (v : View) where
   context_back : (f : ℕ) (own : Record) → function_of v f ≡ Some own → context_in v f ≡ context_of v f own
@@ -55,13 +51,11 @@ program_back P k =
 -- the table t is that of one program
 module _ (bs : List ℕ) (p : Passed) (o : Only bs p) (t : List ℕ) (same : t ≡ bs) where
   abbrev read : Program
-  read = functions_from (record { bytes = t; functions = p.functions; nodes = p.nodes }) (p.functions - 0) 0 0
+  read = functions_from (record { bytes = t; functions = p.functions; nodes = p.nodes }) p.functions 0 0
 
   read_back : read ≡ o.program
   read_back =
-      let z : p.functions - 0 ≡ p.functions = omega arith in
-      ap (λ (n : ℕ). functions_from (record { bytes = t; functions = p.functions; nodes = p.nodes }) n 0 0) z
-      ∙ ap (λ (q : Passed). functions_from (record { bytes = t; functions = q.functions; nodes = q.nodes }) q.functions 0 0) o.tells
+      ap (λ (q : Passed). functions_from (record { bytes = t; functions = q.functions; nodes = q.nodes }) q.functions 0 0) o.tells
       ∙ ap (λ (b : List ℕ). functions_from (record { bytes = b; functions = length o.program; nodes = length (list_p o.program) }) (length o.program) 0 0) (same ∙ sym o.lies)
       ∙ program_back o.program o.keeps
 
@@ -85,23 +79,9 @@ module _ (bs : List ℕ) (p : Passed) (o : Only bs p) (t : List ℕ) (same : t �
       (omega arith, w, omega arith)
 
   -- entry words and bodies are the code
-  pub coded : (a b c : List ℕ) (e : ℕ) → p.words ≤ length a → Wrote 0 p.functions a b (code_entries read p.functions) →
-      Wrote p.functions e b c (code_bodies read p.functions) → e ≡ p.functions + words_bodies read → Coded o.program a c e
+  pub coded : code_entries read p.functions ++ code_bodies read p.functions ≡ code_p o.program
   unfolding code_p
-  coded a b c e room x y l =
-      let t = total in
-      let w = wrote_then x y in
-      let n : e ≡ words_p o.program = omega arith in
+  coded =
       let f : p.functions ≡ length o.program = ap (λ (q : Passed). q.functions) o.tells in
-      let d : code_entries read p.functions ++ code_bodies read p.functions ≡ code_p o.program =
       ap (λ (m : ℕ). code_entries read m ++ code_bodies read m) f
-      ∙ ap (λ (P : Program). code_entries P (length o.program) ++ code_bodies P (length o.program)) read_back in
-      record {
-        room = omega arith;
-        words = n;
-        most = omega arith;
-        long = long_code o.program;
-        memory =
-            sym (take-append-drop e c) ∙ ap (λ (l : List ℕ). l ++ drop e c) (w.out ∙ d) ∙ ap (λ (l : List ℕ). code_p o.program ++ l) w.rest
-            ∙ ap (λ (m : ℕ). code_p o.program ++ drop m a) n;
-      }
+      ∙ ap (λ (P : Program). code_entries P (length o.program) ++ code_bodies P (length o.program)) read_back

@@ -1,47 +1,29 @@
 -- A block, statement by statement.
-use Rattle.std.proofs.Common.{◌≡◌, ℕ, ◌+◌, ◌-◌, ◌<◌, ◌≤◌, List, ◌++◌, take, drop, sym, ap, ◌∙◌, append_assoc, arith}
-use Rattle.std.proofs.lemmas.List.{drop-drop}
+use Rattle.std.proofs.Common.{◌≡◌, ℕ, ◌+◌, ◌-◌, ◌<◌, List, sym, subst, ap, ◌∙◌, arith}
 use Rattle.language.specs.Tree.{Stmt, Stmts, next}
 use Rattle.language.specs.Measures.{words_s, words_ss}
 use Rattle.language.specs.Reader.{read_ss}
 use Rattle.translate.specs.Code.{code_s, code_ss}
-use Rattle.translate.specs.Written.{Wrote}
+use Rattle.translate.specs.Written.{Writes}
 use Rattle.translate.specs.declared.targets.Target.{Target}
+use Rattle.translate.specs.declared.write.Writer.{Writer}
 use Rattle.translate.proofs.Steps.{stmts_step}
+use Rattle.translate.proofs.Writes.{Remains, remains_more}
 
--- of the statements `all` those before `left` were written, from h up to e
-pub record Begun (ts : List Target) (h : ℕ) (before : List ℕ) (all : Stmts) (now : List ℕ) (left : Stmts) (e : ℕ) : Type 0 where
-  pub out : take e now ++ code_ss left ts e ≡ take h before ++ code_ss all ts h
-  pub rest : drop e now ≡ drop e before
-  pub words : e + words_ss left ≡ h + words_ss all
-  pub on : h ≤ e
+-- of the statements `all` those of `rest` are still to be written, in the open loops ts
+pub record StatementsLeft (ts : List Target) (old now : Writer) (rest all : Stmts × ℕ) : Type 0 where
+  pub words : Remains old now (words_ss rest.0) (code_ss rest.0 ts now.here) (words_ss all.0) (code_ss all.0 ts old.here)
+  pub next : rest.1 ≡ all.1
 
-module _ (ts : List Target) (h : ℕ) (before : List ℕ) where
-  begun_more : (all : Stmts) (mid after : List ℕ) (s : Stmt) (b : Stmts) (m e : ℕ) → Begun ts h before all mid (next s b) m →
-      Wrote m e mid after (code_s s ts m) → e ≡ m + words_s s → Begun ts h before all after b e
-  begun_more all mid after s b m e p q l =
-      let w = p.words in
-      record {
-        out = ap (λ x. x ++ code_ss b ts e) q.out ∙ append_assoc (take m mid) (code_s s ts m) (code_ss b ts e)
-            ∙ ap (λ x. take m mid ++ (code_s s ts m ++ code_ss b ts x)) l ∙ p.out;
-        rest = q.rest ∙ later;
-        words = omega arith;
-        on = omega (arith, p.on, q.on);
-      }
-    where
-      later : drop e mid ≡ drop e before
-      later =
-          let n : m + (e - m) ≡ e = omega (arith, q.on) in
-          let x = drop-drop (e - m) m mid in let y = drop-drop (e - m) m before in let z = p.rest in cc
-
-  -- one more statement of n
-  pub block-again : (one : ℕ → Stmt × ℕ) (n i at j q m e : ℕ) (mid after : List ℕ) → i < n →
-      Begun ts h before (read_ss one n at).0 mid (read_ss one (n - i) j).0 m → (read_ss one (n - i) j).1 ≡ (read_ss one n at).1 →
-      Wrote m e mid after (code_s (one j).0 ts m) → e ≡ m + words_s (one j).0 → q ≡ (one j).1 →
-      Begun ts h before (read_ss one n at).0 after (read_ss one (n - (i + 1)) q).0 e × ((read_ss one (n - (i + 1)) q).1 ≡ (read_ss one n at).1)
-  block-again one n i at j q m e mid after l b d p u g =
-      let k : n - i - 1 ≡ n - (i + 1) = omega arith in
-      let s = stmts_step one (n - i) j (omega arith) in
-      let f : (read_ss one (n - i) j).0 ≡ next (one j).0 (read_ss one (n - (i + 1)) q).0 = rw (← k, g) (ap (λ x. x.0) s) in
-      let o : (read_ss one (n - i) j).1 ≡ (read_ss one (n - (i + 1)) q).1 = rw (← k, g) (ap (λ x. x.1) s) in
-      (begun_more (read_ss one n at).0 mid after (one j).0 (read_ss one (n - (i + 1)) q).0 m e (rw f at b) p u, sym o ∙ d)
+-- one statement more of n
+pub block-again : (ts : List Target) (one : ℕ → Stmt × ℕ) (n i j q : ℕ) (all : Stmts × ℕ) (old mid now : Writer) → i < n →
+    StatementsLeft ts old mid (read_ss one (n - i) j) all → Writes mid now (words_s (one j).0) (code_s (one j).0 ts mid.here) → q ≡ (one j).1 →
+    StatementsLeft ts old now (read_ss one (n - (i + 1)) q) all
+block-again ts one n i j q all old mid now l p w g =
+    let k : n - i - 1 ≡ n - (i + 1) = omega arith in
+    let s : read_ss one (n - i) j ≡ (next (one j).0 (read_ss one (n - (i + 1)) q).0, (read_ss one (n - (i + 1)) q).1) = rw (← k, g) (stmts_step one (n - i) j (omega arith)) in
+    let r : Remains old mid (words_s (one j).0 + words_ss (read_ss one (n - (i + 1)) q).0) _ (words_ss all.0) (code_ss all.0 ts old.here) = rw s at p.words in
+    record {
+      words = subst (λ (h : ℕ). Remains old now (words_ss (read_ss one (n - (i + 1)) q).0) (code_ss (read_ss one (n - (i + 1)) q).0 ts h) (words_ss all.0) (code_ss all.0 ts old.here)) (sym w.many) (remains_more r w);
+      next = ap (λ x. x.1) (sym s) ∙ p.next;
+    }

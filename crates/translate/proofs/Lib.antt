@@ -1,8 +1,10 @@
-pub mod Aiming
-pub mod Blocks
 pub mod Bounds
 pub mod Lengths
 pub mod Programs
+pub mod Sorts
 pub mod Steps
-pub mod Back
 pub mod Writes
+pub mod Arguments
+pub mod Blocks
+pub mod Functions
+pub mod Back

@@ -1,10 +1,12 @@
 -- The functions that are read off a table.
 use Rattle.std.specs.Prelude.{ℕ, zero, suc, ◌+◌, cond, [], ◌∷◌, None, ◌==◌}
 use Rattle.std.specs.Option.{unwrap_or}
-use Rattle.table.specs.View.{View, function_of}
+use Rattle.table.specs.View.{View, view, function_of}
+use Rattle.table.specs.declared.view.Table.{Table}
 use Rattle.table.specs.declared.record.Function.{Function as Record}
 use Rattle.language.specs.Tree.{Block, Program}
 use Rattle.walk.specs.Bodies.{signature_of}
+use Rattle.walk.specs.declared.found.Body.{Body}
 use Rattle.walk.specs.declared.found.Context.{Context}
 use Rattle.translate.specs.Source.{block_at}
 
@@ -25,3 +27,11 @@ abbrev pub functions_from : View → ℕ → ℕ → ℕ → Program
 functions_from v zero f i = []
 functions_from v (suc n) f i =
     record { signature = signature_of (context_in v f).own; body = (body_at v (context_in v f) i).0 } ∷ functions_from v n (f + 1) (body_at v (context_in v f) i).1
+
+-- the same of a body
+abbrev pub body_in : Body → ℕ → Block × ℕ
+body_in b i = body_at (view b.table.now) b.context i
+
+-- the program that is read off a table
+abbrev pub program_in : Table → Program
+program_in t = functions_from (view t) t.functions 0 0

@@ -2,7 +2,6 @@
 #![tactic(auto)]
 
 mod act;
-mod aims;
 mod arrive;
 mod bodies;
 mod fault;

@@ -1,113 +1,84 @@
 // The words of expressions.
-ghost use Rattle.std.specs.Prelude.{◌≡◌, ◌+◌, ◌-◌, ◌≤◌, length};
-ghost use Rattle.table.specs.View.{view};
+ghost use Rattle.std.specs.Prelude.{◌≡◌, ◌+◌, ◌++◌};
 ghost use Rattle.language.specs.Measures.{kind_of, words_e, words_a};
 ghost use Rattle.translate.specs.Code.{code_e, code_a};
-ghost use Rattle.translate.specs.Source.{expr_at, args_from};
-ghost use Rattle.translate.specs.Written.{Wrote};
+ghost use Rattle.translate.specs.Source.{expr_in, args_from};
+ghost use Rattle.translate.specs.Written.{HasRoom, Writes};
 
 use crate::arrive::value_at;
-use crate::refer::{argument_count, format_kind, result_kind, unary_kind, variable_kind};
-use crate::write::{put, put_unary};
+use crate::refer::{argument_count, result_kind};
+use crate::write::Writer;
 use code::Instruction;
-use table::{Expression, Format, Kind, Table};
-use walk::Context;
+use table::{Expression, Format, Kind};
+use walk::{Body, format_kind, unary_kind};
 
-// Of an expression whose words were written: its kind, and the place behind its words.
-#[derive(Clone, Copy)]
-pub struct Valued {
-    pub kind: Kind,
-    pub end: usize,
-}
-
-// Writes the words of the expression at a node from `here` on: what it found, and the next node's place.
-#[cycle(arguments_value)]
-pub(crate) fn value(
-    t: &Table,
-    cx: &Context,
-    at: u16,
-    left: u8,
-    code: &mut [u64],
-    here: usize,
-) -> (Valued, u16)
-    requires room { here + words_e (expr_at (view t.now) cx.now left at).0 ≤ length code.old }
-    ensures is { Wrote here result.0.end code.old code.new (code_e (expr_at (view t.now) cx.now left at).0) }
-    ensures end { result.0.end ≡ here + words_e (expr_at (view t.now) cx.now left at).0 }
-    ensures kind { result.0.kind ≡ kind_of (expr_at (view t.now) cx.now left at).0 }
-    ensures next { result.1 ≡ (expr_at (view t.now) cx.now left at).1 }
+// Writes the words of the expression at a node: its kind, and the next node's place.
+#[cycle(arguments_operands_value)]
+pub(crate) fn value(body: &Body, at: u16, left: u8, out: &mut Writer) -> (Kind, u16)
+    requires room { HasRoom out.old (words_e (expr_in body.now left at).0) }
+    ensures is { let a = (expr_in body.now left at).0 in Writes out.old out.new (words_e a) (code_e a) }
+    ensures kind { result.0 ≡ kind_of (expr_in body.now left at).0 }
+    ensures next { result.1 ≡ (expr_in body.now left at).1 }
 {
-    let Some(shape) = value_at(t, cx, at, left) else {
-        let end = put(code, here, Instruction::Read(Format::Char), at);
-        return (
-            Valued {
-                kind: Kind::Byte,
-                end,
-            },
-            at,
-        );
+    let Some(shape) = value_at(body, at, left) else {
+        out.put(Instruction::Read(Format::Char), at);
+        return (Kind::Byte, at);
     };
     match shape {
         Expression::Constant(kind, value) => {
-            let end = put(code, here, Instruction::Constant(kind, value), at);
-            (Valued { kind, end }, at + 1)
+            out.put(Instruction::Constant(kind, value), at);
+            (kind, at + 1)
         }
         Expression::Variable(scope, slot) => {
-            let end = put(
-                code,
-                here,
-                Instruction::Variable(scope, u32::from(slot)),
-                at,
-            );
-            let kind = variable_kind(cx, scope, slot);
-            (Valued { kind, end }, at + 1)
+            out.put(Instruction::Variable(scope, u32::from(slot)), at);
+            let kind = body.context.variable_kind(scope, slot);
+            (kind.unwrap_or(Kind::Int), at + 1)
         }
         Expression::Unary(operator) => {
-            let (a, next) = value(t, cx, at + 1, left - 1, code, here);
-            let end = put_unary(code, a.end, operator, at);
-            let kind = unary_kind(operator);
-            (Valued { kind, end }, next)
+            let (_, next) = value(body, at + 1, left - 1, out);
+            out.put_unary(operator, at);
+            (unary_kind(operator), next)
         }
         Expression::Binary(operator) => {
-            let (a, middle) = value(t, cx, at + 1, left - 1, code, here);
-            let (b, next) = value(t, cx, middle, left - 1, code, a.end);
-            let end = put(code, b.end, Instruction::Binary(operator, a.kind), at);
-            (Valued { kind: a.kind, end }, next)
+            let (kind, next) = operands(body, at + 1, left - 1, out);
+            out.put(Instruction::Binary(operator, kind), at);
+            (kind, next)
         }
         Expression::Call(f) => {
-            let count = argument_count(t, f);
-            let (behind, next) = arguments(t, cx, count, at + 1, left - 1, code, here);
-            let end = put(code, behind, Instruction::Call(u32::from(f)), at);
-            let kind = result_kind(t, f);
-            (Valued { kind, end }, next)
+            let next = arguments(body, argument_count(body, f), at + 1, left - 1, out);
+            out.put(Instruction::Call(u32::from(f)), at);
+            (result_kind(body, f), next)
         }
         Expression::Read(format) => {
-            let end = put(code, here, Instruction::Read(format), at);
-            let kind = format_kind(format);
-            (Valued { kind, end }, at + 1)
+            out.put(Instruction::Read(format), at);
+            (format_kind(format), at + 1)
         }
     }
 }
 
-// The same for so many arguments in a row: the place behind their words, and the next node's.
-#[cycle(arguments_value)]
-pub(crate) fn arguments(
-    t: &Table,
-    cx: &Context,
-    count: u8,
-    at: u16,
-    left: u8,
-    code: &mut [u64],
-    here: usize,
-) -> (usize, u16)
-    requires room { here + words_a (args_from (expr_at (view t.now) cx.now left) count at).0 ≤ length code.old }
-    ensures is { Wrote here result.0 code.old code.new (code_a (args_from (expr_at (view t.now) cx.now left) count at).0) }
-    ensures end { result.0 ≡ here + words_a (args_from (expr_at (view t.now) cx.now left) count at).0 }
-    ensures next { result.1 ≡ (args_from (expr_at (view t.now) cx.now left) count at).1 }
+// Writes the words of two expressions in a row: the first one's kind, and the next node's place.
+#[cycle(arguments_operands_value)]
+pub(crate) fn operands(body: &Body, at: u16, left: u8, out: &mut Writer) -> (Kind, u16)
+    requires room { let a = expr_in body.now left at in HasRoom out.old (words_e a.0 + words_e (expr_in body.now left a.1).0) }
+    ensures is { let a = expr_in body.now left at in let b = expr_in body.now left a.1 in Writes out.old out.new (words_e a.0 + words_e b.0) (code_e a.0 ++ code_e b.0) }
+    ensures kind { result.0 ≡ kind_of (expr_in body.now left at).0 }
+    ensures next { result.1 ≡ (expr_in body.now left (expr_in body.now left at).1).1 }
 {
-    if count == 0 {
-        return (here, at);
+    let (kind, second) = value(body, at, left, out);
+    let (_, next) = value(body, second, left, out);
+    (kind, next)
+}
+
+// Writes the words of so many arguments in a row: the next node's place.
+#[cycle(arguments_operands_value)]
+pub(crate) fn arguments(body: &Body, count: u8, at: u16, left: u8, out: &mut Writer) -> u16
+    requires room { HasRoom out.old (words_a (args_from (expr_in body.now left) count at).0) }
+    ensures is { let xs = (args_from (expr_in body.now left) count at).0 in Writes out.old out.new (words_a xs) (code_a xs) }
+    ensures next { result ≡ (args_from (expr_in body.now left) count at).1 }
+{
+    let mut next = at;
+    for _ in 0..count {
+        (_, next) = value(body, next, left, out);
     }
-    let (first, second) = value(t, cx, at, left, code, here);
-    let (end, next) = arguments(t, cx, count - 1, second, left, code, first.end);
-    (end, next)
+    next
 }

@@ -4,7 +4,7 @@ ghost use Rattle.checker.specs.Held.{held};
 ghost use Rattle.translate.specs.Faults.{told};
 ghost use Rattle.translate.specs.Translated.{Translated};
 
-use crate::bodies::{bodies, entries};
+use crate::bodies;
 use crate::fault::TranslateFault;
 use checker::Program;
 use table::Table;
@@ -36,15 +36,12 @@ pub fn translate(program: &Program, code: &mut [u64]) -> Result<usize, Translate
     ensures { Translated (held program.now) code.old code.new result }
 {
     let counts = program.counts();
-    if let Err(fault) = enough(code.len(), counts.words) {
-        return Err(fault);
-    }
-    let t = Table {
+    enough(code.len(), counts.words)?;
+    let table = Table {
         bytes: program.table(),
         functions: counts.functions,
         nodes: counts.nodes,
     };
-    entries(&t, 0, 0, counts.functions, code);
-    let words = bodies(&t, 0, 0, code, counts.functions);
-    Ok(words)
+    bodies::program(&table, &mut code[..counts.words]);
+    Ok(counts.words)
 }
