@@ -1,5 +1,5 @@
 -- What a step does as far as no line is needed.
-use Rattle.std.specs.Prelude.{ℕ, zero, suc, ◌+◌, ◌-◌, Bool, true, false, cond, List, [], ◌∷◌, ◌++◌, length, drop, replicate, ℤ, pos, Some, None, Option, ◌==◌, nat_lt, slice_index, slice_index_or, slice_set}
+use Rattle.std.specs.Prelude.{ℕ, zero, suc, ◌+◌, ◌-◌, Bool, true, false, cond, List, [], ◌∷◌, ◌++◌, length, drop, replicate, ℤ, pos, Some, None, Ok, Err, Option, Result, ◌==◌, nat_lt, slice_index, slice_index_or, slice_set}
 use Rattle.table.specs.declared.shape.Kind.{Kind}
 use Rattle.table.specs.declared.shape.Scope.TheVariants.{Own, Main}
 use Rattle.table.specs.declared.shape.Format.{Format}
@@ -10,27 +10,24 @@ use Rattle.code.specs.Fields.{node_of}
 use Rattle.code.specs.Word.{instruction_of}
 use Rattle.code.specs.Entries.{entry_of}
 use Rattle.machine.specs.declared.plan.Cause.{Cause}
-use Rattle.machine.specs.declared.plan.Cause.TheVariants.{BadCode, ZeroDivisor, TooDeep, NoReturn}
-use Rattle.machine.specs.declared.plan.Effect.{Effect}
-use Rattle.machine.specs.declared.plan.Effect.TheVariants.{Next, Aim, Wrong, Zero}
+use Rattle.machine.specs.declared.plan.Cause.TheVariants.{BadCode, TooDeep, NoReturn}
+use Rattle.machine.specs.declared.plan.Flow.{Flow}
 use Rattle.machine.specs.declared.plan.Plan.{Plan}
 use Rattle.machine.specs.declared.plan.Plan.TheVariants.{Went, Over, Fault, Read, Send}
 use Rattle.machine.specs.View.{Act, State, state}
-use Rattle.machine.specs.Acts.{with_ops, with_vars, size, first, pushed, dropped, act_by}
+use Rattle.machine.specs.Acts.{with_ops, with_vars, after, size, first, pushed, dropped, act_by}
 
--- How an effect on the newest activation is concluded; a fault leaves the machine as it is.
-abbrev pub concluded : Effect → ℕ → ℕ → State → State × Plan
-concluded Next node next s = (state s.acts next, Went)
-concluded (Aim t) node next s = (state s.acts t, Went)
-concluded Wrong node next s = (s, Fault BadCode node)
-concluded Zero node next s = (s, Fault ZeroDivisor node)
+-- How an act of the newest activation is concluded; a fault leaves the machine as it is.
+abbrev pub concluded : Result Flow Cause → ℕ → ℕ → State → State × Plan
+concluded (Ok flow) node next s = (state s.acts (after flow next), Went)
+concluded (Err cause) node next s = (s, Fault cause node)
 
 -- An act of the newest activation.
-abbrev pub on_top : (Act → Act × Effect) → ℕ → ℕ → ℕ → List Act → State × Plan
+abbrev pub on_top : (Act → Act × Result Flow Cause) → ℕ → ℕ → ℕ → List Act → State × Plan
 on_top f node next p [] = (state [] p, Fault BadCode node)
 on_top f node next p (a ∷ xs) = concluded (f a).1 node next (state ((f a).0 ∷ xs) p)
 
-unfoldable pub settled : (Act → Act × Effect) → ℕ → ℕ → State → State × Plan
+unfoldable pub settled : (Act → Act × Result Flow Cause) → ℕ → ℕ → State → State × Plan
 settled f node next s = on_top f node next s.at s.acts
 
 -- Main's activation stands last.

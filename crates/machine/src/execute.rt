@@ -4,19 +4,10 @@ ghost use Rattle.machine.specs.View.{State, act_of, seen, state, view};
 ghost use Rattle.machine.specs.Acts.{pushed, dropped, act_by};
 ghost use Rattle.machine.specs.States.{concluded, settled, from_main, to_main, has_result, entry_at, called, left, returned, to_read, to_send, run, fetched, main_entry, advanced};
 
-use crate::plan::{Cause, Effect, Plan};
-use crate::state::{Activation, Core, Depth};
+use crate::plan::{Cause, Flow, Plan};
+use crate::state::{Activation, Core};
 use code::{Entry, Instruction, decode, decode_entry, node_of};
 use table::{Format, Kind, Scope};
-
-fn has_result(res: Option<Kind>) -> bool
-    ensures { result ≡ has_result res }
-{
-    match res {
-        None => false,
-        Some(_) => true,
-    }
-}
 
 // The entry word of a function, if the code has it.
 fn entry_at(code: &[u64], function: usize) -> Option<Entry>
@@ -37,7 +28,7 @@ fn main_entry(code: &[u64]) -> Option<Entry>
     let Some(found) = entry_at(code, 0) else {
         return None;
     };
-    if has_result(found.result) {
+    if found.result.is_some() {
         return None;
     }
     if found.parameters == 0 {
@@ -57,7 +48,7 @@ fn open(found: Entry, cells: [i16; 64], back: usize) -> Activation
         cells,
         variables,
         count: variables,
-        gives: has_result(found.result),
+        gives: found.result.is_some(),
         back,
     }
 }
@@ -82,28 +73,26 @@ fn to_send(last: Option<i16>, format: Format, node: u16, next: usize) -> Plan
 }
 
 impl Core {
-    fn conclude(&mut self, effect: Effect, node: u16, next: usize) -> Plan
+    fn conclude(&mut self, effect: Result<Flow, Cause>, node: u16, next: usize) -> Plan
         ensures { (view self.new, result) ≡ concluded effect node next (view self.old) }
     {
         match effect {
-            Effect::Next => {
-                self.at = next;
+            Err(cause) => Plan::Fault(cause, node),
+            Ok(flow) => {
+                self.at = flow.after(next);
                 Plan::Went
             }
-            Effect::Aim(target) => {
-                self.at = target as usize;
-                Plan::Went
-            }
-            Effect::Wrong => Plan::Fault(Cause::BadCode, node),
-            Effect::Zero => Plan::Fault(Cause::ZeroDivisor, node),
         }
     }
 
+    // Here and below `_read` stands since the prover follows an element that is changed in a struct with a fact of its
+    // own only where one was read before.
     fn act(&mut self, instruction: Instruction, node: u16, next: usize) -> Plan
-        requires { 0 < self.old.depth.n }
+        requires { 0 < self.old.depth }
         ensures { (view self.new, result) ≡ settled (act_by instruction) node next (view self.old) }
     {
-        let top = self.depth.n - 1;
+        let top = self.depth - 1;
+        let _read = &self.activations[top];
         let effect = self.activations[top].act(instruction);
         self.conclude(effect, node, next)
     }
@@ -112,10 +101,11 @@ impl Core {
     pub fn receive(&mut self, value: i16, node: u16, next: usize) -> Plan
         ensures { (view self.new, result) ≡ settled (pushed value) node next (view self.old) }
     {
-        if self.depth.n == 0 {
+        if self.depth == 0 {
             return Plan::Fault(Cause::BadCode, node);
         }
-        let top = self.depth.n - 1;
+        let top = self.depth - 1;
+        let _read = &self.activations[top];
         let effect = self.activations[top].push(value);
         self.conclude(effect, node, next)
     }
@@ -124,16 +114,17 @@ impl Core {
     pub fn release(&mut self, node: u16, next: usize) -> Plan
         ensures { (view self.new, result) ≡ settled dropped node next (view self.old) }
     {
-        if self.depth.n == 0 {
+        if self.depth == 0 {
             return Plan::Fault(Cause::BadCode, node);
         }
-        let top = self.depth.n - 1;
+        let top = self.depth - 1;
+        let _read = &self.activations[top];
         let effect = self.activations[top].discard();
         self.conclude(effect, node, next)
     }
 
     fn load_main(&mut self, slot: usize, node: u16, next: usize) -> Plan
-        requires { 0 < self.old.depth.n }
+        requires { 0 < self.old.depth }
         ensures { (view self.new, result) ≡ from_main slot node next (view self.old) }
     {
         match self.activations[0].variable(slot) {
@@ -143,10 +134,10 @@ impl Core {
     }
 
     fn store_main(&mut self, slot: usize, node: u16, next: usize) -> Plan
-        requires { 0 < self.old.depth.n }
+        requires { 0 < self.old.depth }
         ensures { (view self.new, result) ≡ to_main slot node next (view self.old) }
     {
-        let top = self.depth.n - 1;
+        let top = self.depth - 1;
         let Some(value) = self.activations[top].last() else {
             return Plan::Fault(Cause::BadCode, node);
         };
@@ -160,15 +151,15 @@ impl Core {
     }
 
     fn call(&mut self, function: u32, node: u16, next: usize, code: &[u64]) -> Plan
-        requires { 0 < self.old.depth.n }
+        requires { 0 < self.old.depth }
         ensures { (view self.new, result) ≡ called code.now function node next (view self.old) }
     {
         let Some(found) = entry_at(code, function as usize) else {
             return Plan::Fault(Cause::BadCode, node);
         };
-        let depth = self.depth.n;
+        let depth = self.depth;
         let given = usize::from(found.parameters);
-        if self.activations[depth - 1].operands() < given {
+        if self.activations[depth - 1].operands().len() < given {
             return Plan::Fault(Cause::BadCode, node);
         }
         if depth >= 32 {
@@ -177,16 +168,16 @@ impl Core {
         let cells = self.activations[depth - 1].arguments(given);
         self.activations[depth - 1].release(given);
         self.activations[depth] = open(found, cells, next);
-        self.depth = Depth { n: depth + 1 };
+        self.depth = depth + 1;
         self.at = usize::from(found.address);
         Plan::Went
     }
 
     fn leave(&mut self, cause: Cause, node: u16) -> Plan
-        requires { 0 < self.old.depth.n }
+        requires { 0 < self.old.depth }
         ensures { (view self.new, result) ≡ left cause node (view self.old) }
     {
-        let top = self.depth.n - 1;
+        let top = self.depth - 1;
         if top == 0 {
             return Plan::Over;
         }
@@ -194,15 +185,15 @@ impl Core {
             return Plan::Fault(cause, node);
         }
         self.at = self.activations[top].back;
-        self.depth = Depth { n: top };
+        self.depth = top;
         Plan::Went
     }
 
     fn give_back(&mut self, node: u16) -> Plan
-        requires { 0 < self.old.depth.n }
+        requires { 0 < self.old.depth }
         ensures { (view self.new, result) ≡ returned node (view self.old) }
     {
-        let top = self.depth.n - 1;
+        let top = self.depth - 1;
         if top == 0 {
             return Plan::Fault(Cause::BadCode, node);
         }
@@ -217,12 +208,12 @@ impl Core {
         }
         self.at = self.activations[top].back;
         let _ = self.activations[top - 1].push(value);
-        self.depth = Depth { n: top };
+        self.depth = top;
         Plan::Went
     }
 
     fn run(&mut self, instruction: Instruction, node: u16, next: usize, code: &[u64]) -> Plan
-        requires { 0 < self.old.depth.n }
+        requires { 0 < self.old.depth }
         ensures { (view self.new, result) ≡ run instruction node next code.now (view self.old) }
     {
         match instruction {
@@ -234,11 +225,11 @@ impl Core {
             Instruction::Close => self.leave(Cause::NoReturn, node),
             Instruction::Return => self.give_back(node),
             Instruction::Read(format) => {
-                let free = self.activations[self.depth.n - 1].free();
+                let free = self.activations[self.depth - 1].free();
                 to_read(free, format, node, next)
             }
             Instruction::Write(format) => {
-                let last = self.activations[self.depth.n - 1].last();
+                let last = self.activations[self.depth - 1].last();
                 to_send(last, format, node, next)
             }
             _ => self.act(instruction, node, next),
@@ -246,7 +237,7 @@ impl Core {
     }
 
     fn fetch(&mut self, code: &[u64]) -> Plan
-        requires { 0 < self.old.depth.n }
+        requires { 0 < self.old.depth }
         ensures { (view self.new, result) ≡ fetched code.now (view self.old) }
     {
         if self.at >= code.len() {
@@ -262,17 +253,17 @@ impl Core {
 
     // Sees to it that main is open; answers whether it is.
     fn start(&mut self, code: &[u64]) -> bool
-        ensures { MatchBool result ((fetched code.now (view self.new) ≡ advanced code.now (view self.old)) × (0 < self.new.depth.n))
+        ensures { MatchBool result ((fetched code.now (view self.new) ≡ advanced code.now (view self.old)) × (0 < self.new.depth))
             (◌≡◌ {A = State × Plan} (view self.new, Plan.Fault Cause.BadCode 0) (advanced code.now (view self.old))) }
     {
-        if self.depth.n > 0 {
+        if self.depth > 0 {
             return true;
         }
         let Some(found) = main_entry(code) else {
             return false;
         };
         self.activations[0] = open(found, [0; 64], 0);
-        self.depth = Depth { n: 1 };
+        self.depth = 1;
         self.at = usize::from(found.address);
         true
     }
@@ -293,7 +284,7 @@ impl Core {
         ensures { view self.new ≡ (if first then state [] at else view self.old) }
     {
         if first {
-            self.depth = Depth { n: 0 };
+            self.depth = 0;
             self.at = at;
         }
     }

@@ -6,7 +6,7 @@ ghost use Rattle.machine.specs.Steps.{world, latch_of, outcome_of, stepped, Step
 
 use crate::message::{compose, find};
 use crate::plan::{Cause, Latch, Outcome, Plan};
-use crate::state::{Activation, Core, Depth, Machine};
+use crate::state::{Activation, Core, Machine};
 use line::{Line, peek, send_text};
 use number::Reading;
 
@@ -26,7 +26,7 @@ impl Machine {
         Machine {
             core: Core {
                 activations: [blank; 32],
-                depth: Depth { n: 0 },
+                depth: 0,
                 at: 0,
             },
             latch: Latch::Open,
@@ -37,7 +37,7 @@ impl Machine {
     pub fn main_variable(&self, slot: usize) -> i16
         ensures { result ≡ slice_index_or (main_variables (view self.now.core).acts) slot (pos 0) }
     {
-        if self.core.depth.n == 0 {
+        if self.core.depth == 0 {
             return 0;
         }
         match self.core.activations[0].variable(slot) {
@@ -80,7 +80,7 @@ impl Machine {
             Latch::Failed(cause, node) => return Outcome::Failed(cause, node),
             Latch::Open => {}
         }
-        let first = self.core.depth.n == 0;
+        let first = self.core.depth == 0;
         let at = self.core.at;
         match self.core.advance(code) {
             Plan::Read(format, node, next) => match find(format, peek(line).as_bytes()) {

@@ -1,6 +1,7 @@
 // What an act, a plan and a step come to.
 ghost use Rattle.std.specs.Prelude.{◌≡◌};
 ghost use Rattle.machine.specs.View.{cause_number};
+ghost use Rattle.machine.specs.Acts.{after};
 
 use table::Format;
 
@@ -30,13 +31,23 @@ impl Cause {
     }
 }
 
-// What an act on one activation comes to: go on behind the word, go on elsewhere, bad code, a zero divisor.
+// Where a machine goes on after an act of one activation: behind the word, or elsewhere.
 #[derive(Clone, Copy)]
-pub enum Effect {
+pub enum Flow {
     Next,
     Aim(u32),
-    Wrong,
-    Zero,
+}
+
+impl Flow {
+    // The address, after a word behind which the next one stands at `next`.
+    pub fn after(self, next: usize) -> usize
+        ensures { result ≡ after self next }
+    {
+        match self {
+            Flow::Next => next,
+            Flow::Aim(target) => target as usize,
+        }
+    }
 }
 
 // What a step comes to as far as no line is needed. A read and a send still have to be performed; they tell the node

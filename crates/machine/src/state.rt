@@ -14,19 +14,13 @@ pub struct Activation {
     ghost ok: { (variables ≤ count) × (count ≤ 64) },
 }
 
-// How many activations are open.
-#[derive(Clone, Copy)]
-pub struct Depth {
-    pub n: usize,
-    ghost ok: { n ≤ 32 },
-}
-
 // The activations, main's first, and the address of the next word. None is open before the first step.
 #[derive(Drop)]
 pub struct Core {
     pub activations: [Activation; 32],
-    pub depth: Depth,
+    pub depth: usize,
     pub at: usize,
+    ghost few: { depth ≤ 32 },
 }
 
 #[derive(Drop)]

@@ -9,13 +9,13 @@ use Rattle.machine.proofs.state.Core.load_main.Goals as goal
 pub returns-in-None : goal.returns-in-None
 unfolding view
 returns-in-None c =
-    let l : c.args.self.now.depth.n ≤ length c.args.self.now.activations = omega arith in
-    load_main_none c.args.self.now.activations c.args.self.now.depth.n c.args.self.now.at c.args.node c.args.next c.requires l c.args.slot c.index-self-0.result c.in-None.ensures
+    let l : c.args.self.now.depth ≤ length c.args.self.now.activations = omega arith in
+    load_main_none c.args.self.now.activations c.args.self.now.depth c.args.self.now.at c.args.node c.args.next c.requires l c.args.slot c.index-self-0.result c.in-None.ensures
 
 pub returns-in-Some : goal.returns-in-Some
 unfolding view
 returns-in-Some c =
-    let l : c.args.self.now.depth.n ≤ length c.args.self.now.activations = omega arith in
+    let l : c.args.self.now.depth ≤ length c.args.self.now.activations = omega arith in
     let f : SFits w16 c.in-Some.value = search rules in
     let e : (view c.receive.new.self, c.receive.result) ≡ settled (pushed c.in-Some.value) c.args.node c.args.next (view c.args.self.now) = simp to_z-of_z at c.receive.ensures in
-    e ∙ load_main_some c.args.self.now.activations c.args.self.now.depth.n c.args.self.now.at c.args.node c.args.next c.requires l c.args.slot c.index-self-0.result c.in-Some.value c.in-Some.ensures
+    e ∙ load_main_some c.args.self.now.activations c.args.self.now.depth c.args.self.now.at c.args.node c.args.next c.requires l c.args.slot c.index-self-0.result c.in-Some.value c.in-Some.ensures

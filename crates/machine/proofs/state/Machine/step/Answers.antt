@@ -41,7 +41,7 @@ unfolding view
 returns-in-Wait g c =
     let b : c.as_bytes.result.now ≡ take 8 (g.L.Line.waiting c.args.line.now) = c.as_bytes.ensures ∙ c.peek.ensures in
     let d = c.in-Wait.ensures ∙ (ap (finds c.in-Read.format) b ∙ finds-eight c.in-Read.format (g.L.Line.waiting c.args.line.now)) in
-    let u : view c.undo.new.self ≡ (view c.args.self.now.core) = c.undo.ensures ∙ undone c.args.code.now c.args.self.now.core.activations c.args.self.now.core.depth.n c.args.self.now.core.at (view c.advance.new.self) c.in-Read.format c.in-Read.node c.in-Read.next c.in-Read.ensures in
+    let u : view c.undo.new.self ≡ (view c.args.self.now.core) = c.undo.ensures ∙ undone c.args.code.now c.args.self.now.core.activations c.args.self.now.core.depth c.args.self.now.core.at (view c.advance.new.self) c.in-Read.format c.in-Read.node c.in-Read.next c.in-Read.ensures in
     let x : (world (view c.undo.new.self) c.args.self.now.latch (g.L.Line.waiting c.args.line.now) (g.L.Line.sent c.args.line.now) (g.L.Line.room c.args.line.now), Waits) ≡ (world (view c.args.self.now.core) Open (g.L.Line.waiting c.args.line.now) (g.L.Line.sent c.args.line.now) (g.L.Line.room c.args.line.now), Waits) =
     ap (λ (z : State). (world z c.args.self.now.latch (g.L.Line.waiting c.args.line.now) (g.L.Line.sent c.args.line.now) (g.L.Line.room c.args.line.now), Waits)) u ∙ ap (λ (z : Latch). (world (view c.args.self.now.core) z (g.L.Line.waiting c.args.line.now) (g.L.Line.sent c.args.line.now) (g.L.Line.room c.args.line.now), Waits)) c.in-Open.is in
     let e = step_by c.args.code.now (view c.args.self.now.core) c.args.self.now.latch (g.L.Line.waiting c.args.line.now) (g.L.Line.sent c.args.line.now) (g.L.Line.room c.args.line.now) (view c.advance.new.self) (Read c.in-Read.format c.in-Read.node c.in-Read.next) _ c.in-Open.is c.in-Read.ensures
