@@ -1,8 +1,6 @@
 -- Entry words as the machine reads them.
 use Rattle.std.proofs.Common.{◌≡◌, ℕ, ◌<◌, ◌≤◌, true, false, eqb, ltb, List, length, get_or, IfSome, Some, None, Option, sym, refl, ap, ◌∙◌, arith}
 use Rattle.std.proofs.lemmas.Bool.Decides.{nat_tests}
-use Rattle.table.specs.declared.shape.Kind.{Kind}
-use Rattle.std.specs.Option.{is_some}
 use Rattle.code.specs.declared.instruction.Entry.{Entry}
 use Rattle.code.specs.Entries.{entry_of, EntryWrittenAgain}
 use Rattle.machine.specs.States.{entry_at, has_result, plain_entry, main_entry}
@@ -41,7 +39,3 @@ module _ (code : List ℕ) where
     main-plain g k =
         let z : eqb e.parameters 0 ≡ true = grind (arith, nat_tests) in
         let t : plain_entry (Some e) ≡ Some e = rw (← g, z) refl in sym t ∙ ap plain_entry h
-
-pub result_there : (r : Option Kind) → is_some r ≡ has_result r
-result_there None = refl
-result_there (Some k) = refl

@@ -1,5 +1,5 @@
 -- What a step does as far as no line is needed.
-use Rattle.std.specs.Prelude.{ℕ, zero, suc, ◌+◌, ◌-◌, Bool, true, false, cond, List, [], ◌∷◌, ◌++◌, length, drop, replicate, ℤ, pos, Some, None, Ok, Err, Option, Result, ◌==◌, nat_lt, slice_index, slice_index_or, slice_set}
+use Rattle.std.specs.Prelude.{ℕ, zero, suc, ◌+◌, ◌-◌, Bool, true, false, cond, List, [], ◌∷◌, ◌++◌, length, drop, replicate, ℤ, pos, Some, None, Ok, Err, Option, Result, ◌==◌, nat_lt, is_some, slice_index, slice_index_or, slice_set}
 use Rattle.table.specs.declared.shape.Kind.{Kind}
 use Rattle.table.specs.declared.shape.Scope.TheVariants.{Own, Main}
 use Rattle.table.specs.declared.shape.Format.{Format}
@@ -97,8 +97,7 @@ args (suc n) [] = []
 args (suc n) (v ∷ ops) = args n ops ++ (v ∷ [])
 
 abbrev pub has_result : Option Kind → Bool
-has_result None = false
-has_result (Some k) = true
+has_result r = is_some r
 
 -- A new activation: the arguments fill the first slots, the other variables start at 0.
 abbrev pub fresh : Entry → ℕ → List ℤ → Act

@@ -9,15 +9,18 @@ use crate::state::{Activation, Core};
 use code::{Entry, Instruction, decode, decode_entry, node_of};
 use table::{Format, Kind, Scope};
 
+// Bad code where no word stands, or at main's entry word.
+const NOWHERE: Fault = Fault {
+    cause: Cause::BadCode,
+    node: 0,
+};
+
 // The entry word of a function, if the code has it.
 fn entry_at(code: &[u64], function: usize) -> Option<Entry>
     ensures is { result ≡ entry_at code.now function }
     ensures few { IfSome result (λ e. (e.variables ≤ 32) × (e.parameters ≤ e.variables)) }
 {
-    if function >= code.len() {
-        return None;
-    }
-    decode_entry(code[function])
+    decode_entry(*code.get(function)?)
 }
 
 // Main's entry word, which has neither a result nor parameters.
@@ -25,6 +28,7 @@ fn main_entry(code: &[u64]) -> Option<Entry>
     ensures is { result ≡ main_entry code.now }
     ensures few { IfSome result (λ e. (e.variables ≤ 32) × (e.parameters ≡ 0)) }
 {
+    // By `filter` the answer would be a closure's, with a contract of its own to say what these two tests say.
     let found = entry_at(code, 0)?;
     if found.result.is_some() {
         return None;
@@ -68,6 +72,8 @@ fn to_send(last: Option<i16>, format: Format, site: Site) -> Result<Plan, Fault>
     Ok(Plan::Send(format, value, site))
 }
 
+// `act`, `receive` and `release` differ in the act alone. As one function that takes the act as a closure they would be
+// no plainer: its contract would have to speak of every closure's effect on what an activation stands for.
 impl Core {
     fn conclude(&mut self, effect: Result<Flow, Cause>, site: Site) -> Result<Plan, Fault>
         ensures { (view self.new, result) ≡ concluded effect site.node site.next (view self.old) }
@@ -230,13 +236,7 @@ impl Core {
         requires { 0 < self.old.depth }
         ensures { (view self.new, result) ≡ fetched code.now (view self.old) }
     {
-        if self.at >= code.len() {
-            return Err(Fault {
-                cause: Cause::BadCode,
-                node: 0,
-            });
-        }
-        let word = code[self.at];
+        let word = *code.get(self.at).ok_or(NOWHERE)?;
         let site = Site {
             node: node_of(word),
             next: self.at + 1,
@@ -253,10 +253,7 @@ impl Core {
         if self.depth > 0 {
             return Ok(());
         }
-        let found = main_entry(code).ok_or(Fault {
-            cause: Cause::BadCode,
-            node: 0,
-        })?;
+        let found = main_entry(code).ok_or(NOWHERE)?;
         self.activations[0] = open(found, [0; 64], 0);
         self.depth = 1;
         self.at = usize::from(found.address);

@@ -1,8 +1,7 @@
 use Rattle.std.proofs.Common.{refl}
 use Rattle.machine.specs.View.{seen}
-use Rattle.machine.proofs.Entries.{result_there}
 use Rattle.machine.proofs.execute.open.Goals as goal
 
 pub returns : goal.returns
 unfolding seen
-returns c = rw (c.from-variables.ensures, c.is_some.ensures, result_there c.args.found.result) refl
+returns c = rw (c.from-variables.ensures, c.is_some.ensures) refl

@@ -8,4 +8,4 @@ pub returns : goal.returns
 unfolding view
 returns c =
     let l : c.args.self.now.depth ≤ length c.args.self.now.activations = omega arith in
-    c.conclude.ensures ∙ top-done c.args.self.now.activations c.args.self.now.depth c.requires l c.args.self.now.at c.args.site.node c.args.site.next (act_by c.args.instruction) _ c.act-effect.new.self c.act-effect.result c.act-effect.ensures
+    c.conclude.ensures ∙ top-done _ _ c.requires l _ _ _ (act_by c.args.instruction) _ c.act-effect.new.self c.act-effect.result c.act-effect.ensures

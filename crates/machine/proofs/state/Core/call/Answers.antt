@@ -23,7 +23,7 @@ returns-then-operands-given c =
     let l : c.args.self.now.depth ≤ length c.args.self.now.activations = omega arith in
     let g : Some c.in_ok-found.found ≡ entry_at c.args.code.now c.args.function = search rules in
     let o : length c.operands.result.now ≡ length (seen (get_or c.args.self.now.activations (c.args.self.now.depth - 1) c.index-self-depth.result)).ops = ap length c.operands.ensures.are ∙ length-reverse _ in
-    rw c.fault-then-operands-given.ensures (call-few c.args.self.now.activations c.args.self.now.depth c.args.self.now.at c.args.site.node c.args.site.next c.requires l c.args.code.now c.args.function c.in_ok-found.found g c.index-self-depth.result (omega (arith, o, c.from-given.ensures)))
+    rw c.fault-then-operands-given.ensures (call-few _ _ _ _ _ c.requires l c.args.code.now c.args.function c.in_ok-found.found g c.index-self-depth.result (omega (arith, o, c.from-given.ensures)))
 
 pub returns-then-depth-ge32 : goal.returns-then-depth-ge32
 unfolding view
@@ -31,7 +31,7 @@ returns-then-depth-ge32 c =
     let l : c.args.self.now.depth ≤ length c.args.self.now.activations = omega arith in
     let g : Some c.in_ok-found.found ≡ entry_at c.args.code.now c.args.function = search rules in
     let o : length c.operands.result.now ≡ length (seen (get_or c.args.self.now.activations (c.args.self.now.depth - 1) c.index-self-depth.result)).ops = ap length c.operands.ensures.are ∙ length-reverse _ in
-    rw c.fault-then-depth-ge32.ensures (call-deep c.args.self.now.activations c.args.self.now.depth c.args.self.now.at c.args.site.node c.args.site.next c.requires l c.args.code.now c.args.function c.in_ok-found.found g c.index-self-depth.result (omega (arith, o, c.from-given.ensures)) c.if-depth-ge32.true)
+    rw c.fault-then-depth-ge32.ensures (call-deep _ _ _ _ _ c.requires l c.args.code.now c.args.function c.in_ok-found.found g c.index-self-depth.result (omega (arith, o, c.from-given.ensures)) c.if-depth-ge32.true)
 
 pub returns : goal.returns
 unfolding view
@@ -49,4 +49,4 @@ returns c =
     let r : seen c.open.result ≡ fresh c.in_ok-found.found c.args.site.next (args c.in_ok-found.found.parameters (seen (get_or c.args.self.now.activations (c.args.self.now.depth - 1) c.index-self-depth-3.result)).ops) =
     c.open.ensures ∙ fresh_is c.in_ok-found.found c.args.site.next (args c.in_ok-found.found.parameters (seen (get_or c.args.self.now.activations (c.args.self.now.depth - 1) c.index-self-depth-3.result)).ops) c.arguments-cells.result e (length-args c.in_ok-found.found.parameters (seen (get_or c.args.self.now.activations (c.args.self.now.depth - 1) c.index-self-depth-3.result)).ops k) m.1 m.0 in
     ap (λ (a : ℕ). (state (tops (set (set c.args.self.now.activations (c.args.self.now.depth - 1) c.release.new.self) c.args.self.now.depth c.open.result) (c.args.self.now.depth + 1)) a, Ok Went)) c.from-self.ensures
-    ∙ call_in c.args.self.now.activations c.args.self.now.depth c.args.self.now.at c.args.site.node c.args.site.next c.requires l c.args.code.now c.args.function c.in_ok-found.found g c.index-self-depth-3.result k (omega arith) c.release.new.self c.open.result q r w
+    ∙ call_in _ _ _ _ _ c.requires l c.args.code.now c.args.function c.in_ok-found.found g c.index-self-depth-3.result k (omega arith) c.release.new.self c.open.result q r w

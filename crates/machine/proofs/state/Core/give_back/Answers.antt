@@ -17,7 +17,7 @@ pub returns-then-not-self-top : goal.returns-then-not-self-top
 unfolding view seen
 returns-then-not-self-top c =
     let l : c.args.self.now.depth ≤ length c.args.self.now.activations = omega arith in
-    rw c.fault-then-not-self-top.ensures (return_not c.args.self.now.activations c.args.self.now.depth c.args.self.now.at c.args.site.node 0 c.requires l c.if-top-eq0.false c.index-self-top.result c.index-self-top.result c.if-not-self-top.true)
+    rw c.fault-then-not-self-top.ensures (return_not _ _ _ _ 0 c.requires l c.if-top-eq0.false c.index-self-top.result c.index-self-top.result c.if-not-self-top.true)
 
 pub returns-in_err-value : goal.returns-in_err-value
 unfolding view seen
@@ -25,14 +25,14 @@ returns-in_err-value c =
     let l : c.args.self.now.depth ≤ length c.args.self.now.activations = omega arith in
     let r : c.from_residual.result ≡ faulty BadCode c.args.site.node = search rules in
     let e : None ≡ first (seen (get_or c.args.self.now.activations (c.args.self.now.depth - 1) c.index-self-top-2.result)).ops = search rules in
-    rw r (return_none c.args.self.now.activations c.args.self.now.depth c.args.self.now.at c.args.site.node 0 c.requires l c.if-top-eq0.false c.index-self-top-2.result c.index-self-top.result (ap (λ (x : Activation). x.gives) (any_default c.args.self.now.activations (c.args.self.now.depth - 1) c.index-self-top-2.result c.index-self-top.result (omega arith)) ∙ c.if-not-self-top.false) e)
+    rw r (return_none _ _ _ _ 0 c.requires l c.if-top-eq0.false c.index-self-top-2.result c.index-self-top.result (ap (λ (x : Activation). x.gives) (any_default c.args.self.now.activations (c.args.self.now.depth - 1) c.index-self-top-2.result c.index-self-top.result (omega arith)) ∙ c.if-not-self-top.false) e)
 
 pub returns-then-not-free : goal.returns-then-not-free
 unfolding view seen
 returns-then-not-free c =
     let l : c.args.self.now.depth ≤ length c.args.self.now.activations = omega arith in
     let e : Some c.in_ok-value.value ≡ first (seen (get_or c.args.self.now.activations (c.args.self.now.depth - 1) c.index-self-top-2.result)).ops = search rules in
-    rw c.fault-then-not-free.ensures (return_full c.args.self.now.activations c.args.self.now.depth c.args.self.now.at c.args.site.node 0 c.requires l c.if-top-eq0.false c.index-self-top-2.result c.index-self-top-3.result (ap (λ (x : Activation). x.gives) (any_default c.args.self.now.activations (c.args.self.now.depth - 1) c.index-self-top-2.result c.index-self-top.result (omega arith)) ∙ c.if-not-self-top.false) c.in_ok-value.value e c.if-not-free.ensures)
+    rw c.fault-then-not-free.ensures (return_full _ _ _ _ 0 c.requires l c.if-top-eq0.false c.index-self-top-2.result c.index-self-top-3.result (ap (λ (x : Activation). x.gives) (any_default c.args.self.now.activations (c.args.self.now.depth - 1) c.index-self-top-2.result c.index-self-top.result (omega arith)) ∙ c.if-not-self-top.false) c.in_ok-value.value e c.if-not-free.ensures)
 
 pub returns : goal.returns
 unfolding view seen
@@ -40,5 +40,5 @@ returns c =
     let l : c.args.self.now.depth ≤ length c.args.self.now.activations = omega arith in
     let e : Some c.in_ok-value.value ≡ first (seen (get_or c.args.self.now.activations (c.args.self.now.depth - 1) c.index-self-top-2.result)).ops = search rules in
     let f : SFits w16 c.in_ok-value.value = search rules in
-    return_in c.args.self.now.activations c.args.self.now.depth c.args.self.now.at c.args.site.node 0 c.requires l c.if-top-eq0.false c.index-self-top-4.result c.index-self-top-5.result (ap (λ (x : Activation). x.gives) (any_default c.args.self.now.activations (c.args.self.now.depth - 1) c.index-self-top-4.result c.index-self-top.result (omega arith)) ∙ c.if-not-self-top.false) c.in_ok-value.value (e ∙ ap (λ (x : Activation). first (seen x).ops) (any_default c.args.self.now.activations (c.args.self.now.depth - 1) c.index-self-top-2.result c.index-self-top-4.result (omega arith)))
+    return_in _ _ _ _ 0 c.requires l c.if-top-eq0.false c.index-self-top-4.result c.index-self-top-5.result (ap (λ (x : Activation). x.gives) (any_default c.args.self.now.activations (c.args.self.now.depth - 1) c.index-self-top-4.result c.index-self-top.result (omega arith)) ∙ c.if-not-self-top.false) c.in_ok-value.value (e ∙ ap (λ (x : Activation). first (seen x).ops) (any_default c.args.self.now.activations (c.args.self.now.depth - 1) c.index-self-top-2.result c.index-self-top-4.result (omega arith)))
     (c.if-not-free.ensures ∙ ap (λ (x : Activation). ltb (size (seen x)) 64) (any_default c.args.self.now.activations ((c.args.self.now.depth - 1) - 1) c.index-self-top-3.result c.index-self-top-5.result (omega arith))) c.push.new.self c.push.result (simp to_z-of_z at c.push.ensures)

@@ -13,11 +13,11 @@ pub returns-then-self-top : goal.returns-then-self-top
 unfolding view seen
 returns-then-self-top c =
     let l : c.args.self.now.depth ≤ length c.args.self.now.activations = omega arith in
-    rw c.fault.ensures (leave_gives c.args.self.now.activations c.args.self.now.depth c.args.self.now.at c.args.site.node 0 c.requires l c.if-top-eq0.false c.index-self-top.result c.index-self-top.result c.args.cause c.if-self-top.true)
+    rw c.fault.ensures (leave_gives _ _ _ _ 0 c.requires l c.if-top-eq0.false c.index-self-top.result c.index-self-top.result c.args.cause c.if-self-top.true)
 
 pub returns : goal.returns
 unfolding view seen
 returns c =
     let l : c.args.self.now.depth ≤ length c.args.self.now.activations = omega arith in
-    leave_back c.args.self.now.activations c.args.self.now.depth c.args.self.now.at c.args.site.node 0 c.requires l c.if-top-eq0.false c.index-self-top-2.result c.index-self-top.result c.args.cause
+    leave_back _ _ _ _ 0 c.requires l c.if-top-eq0.false c.index-self-top-2.result c.index-self-top.result c.args.cause
     (ap (λ (x : Activation). x.gives) (any_default c.args.self.now.activations (c.args.self.now.depth - 1) c.index-self-top-2.result c.index-self-top.result (omega arith)) ∙ c.if-self-top.false)

@@ -13,7 +13,7 @@ returns-in_err-value c =
     let l : c.args.self.now.depth ≤ length c.args.self.now.activations = omega arith in
     let r : c.from_residual.result ≡ faulty BadCode c.args.site.node = search rules in
     let e : None ≡ variable_at (seen (get_or c.args.self.now.activations 0 c.index-self-0.result)).vars c.args.slot = search rules in
-    rw r (load_main_none c.args.self.now.activations c.args.self.now.depth c.args.self.now.at c.args.site.node c.args.site.next c.requires l c.args.slot c.index-self-0.result e)
+    rw r (load_main_none _ _ _ _ _ c.requires l c.args.slot c.index-self-0.result e)
 
 pub returns : goal.returns
 unfolding view
@@ -22,4 +22,4 @@ returns c =
     let f : SFits w16 c.in_ok-value.value = search rules in
     let e : Some c.in_ok-value.value ≡ variable_at (seen (get_or c.args.self.now.activations 0 c.index-self-0.result)).vars c.args.slot = search rules in
     let p : (view c.receive.new.self, c.receive.result) ≡ settled (pushed c.in_ok-value.value) c.args.site.node c.args.site.next (view c.args.self.now) = simp to_z-of_z at c.receive.ensures in
-    p ∙ load_main_some c.args.self.now.activations c.args.self.now.depth c.args.self.now.at c.args.site.node c.args.site.next c.requires l c.args.slot c.index-self-0.result c.in_ok-value.value e
+    p ∙ load_main_some _ _ _ _ _ c.requires l c.args.slot c.index-self-0.result c.in_ok-value.value e

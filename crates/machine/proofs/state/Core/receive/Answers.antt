@@ -13,4 +13,4 @@ pub returns : goal.returns
 unfolding view
 returns c =
     let l : c.args.self.now.depth ≤ length c.args.self.now.activations = omega arith in
-    c.conclude.ensures ∙ top-done c.args.self.now.activations c.args.self.now.depth (omega arith) l c.args.self.now.at c.args.site.node c.args.site.next (pushed c.args.value) _ c.push-effect.new.self c.push-effect.result (simp (to_z-of_z w16 c.args.value c.ranges.value) at c.push-effect.ensures)
+    c.conclude.ensures ∙ top-done _ c.args.self.now.depth (omega arith) l _ _ _ (pushed c.args.value) _ c.push-effect.new.self c.push-effect.result (simp (to_z-of_z w16 c.args.value c.ranges.value) at c.push-effect.ensures)

@@ -12,4 +12,4 @@ pub returns : goal.returns
 unfolding view
 returns c =
     let l : c.args.self.now.depth ≤ length c.args.self.now.activations = omega arith in
-    c.conclude.ensures ∙ top-done c.args.self.now.activations c.args.self.now.depth (omega arith) l c.args.self.now.at c.args.site.node c.args.site.next dropped _ c.discard-effect.new.self c.discard-effect.result c.discard-effect.ensures
+    c.conclude.ensures ∙ top-done _ c.args.self.now.depth (omega arith) l _ _ _ dropped _ c.discard-effect.new.self c.discard-effect.result c.discard-effect.ensures

@@ -14,14 +14,14 @@ returns-in_err-value c =
     let l : c.args.self.now.depth ≤ length c.args.self.now.activations = omega arith in
     let r : c.from_residual.result ≡ faulty BadCode c.args.site.node = search rules in
     let e : None ≡ first (seen (get_or c.args.self.now.activations (c.args.self.now.depth - 1) c.index-self-top.result)).ops = search rules in
-    rw r (store_main_none c.args.self.now.activations c.args.self.now.depth c.args.self.now.at c.args.site.node c.args.site.next c.requires l c.args.slot c.index-self-top.result c.index-self-top.result e)
+    rw r (store_main_none _ _ _ _ _ c.requires l c.args.slot c.index-self-top.result c.index-self-top.result e)
 
 pub returns-then-not-has : goal.returns-then-not-has
 unfolding view
 returns-then-not-has c =
     let l : c.args.self.now.depth ≤ length c.args.self.now.activations = omega arith in
     let e : Some c.in_ok-value.value ≡ first (seen (get_or c.args.self.now.activations (c.args.self.now.depth - 1) c.index-self-top.result)).ops = search rules in
-    rw c.fault-then-not-has.ensures (store_main_slot c.args.self.now.activations c.args.self.now.depth c.args.self.now.at c.args.site.node c.args.site.next c.requires l c.args.slot c.index-self-0.result c.index-self-top.result c.in_ok-value.value e c.if-not-has.ensures)
+    rw c.fault-then-not-has.ensures (store_main_slot _ _ _ _ _ c.requires l c.args.slot c.index-self-0.result c.index-self-top.result c.in_ok-value.value e c.if-not-has.ensures)
 
 pub returns : goal.returns
 unfolding view
@@ -30,6 +30,6 @@ returns c =
     let e : Some c.in_ok-value.value ≡ first (seen (get_or c.args.self.now.activations (c.args.self.now.depth - 1) c.index-self-top.result)).ops = search rules in
     let k : c.args.self.now.depth ≤ length (set c.args.self.now.activations 0 c.assign.new.self) = simp length-set (omega arith) in
     let f : SFits w16 c.in_ok-value.value = search rules in
-    store_main_there c.args.self.now.activations c.args.self.now.depth c.args.self.now.at c.args.site.node c.args.site.next c.requires l c.args.slot c.index-self-0-2.result c.index-self-top.result c.in_ok-value.value e
+    store_main_there _ _ _ _ _ c.requires l c.args.slot c.index-self-0-2.result c.index-self-top.result c.in_ok-value.value e
     (c.if-not-has.ensures ∙ ap (λ (x : Activation). ltb c.args.slot (length (seen x).vars)) (any_default c.args.self.now.activations 0 c.index-self-0.result c.index-self-0-2.result (omega arith)))
     c.assign.new.self c.discard.new.self c.index-self-top-2.result c.discard.result (simp to_z-of_z at c.assign.ensures) k c.discard.ensures
