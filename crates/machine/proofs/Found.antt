@@ -10,12 +10,15 @@ use Rattle.number.proofs.Feeds.{Told, found, missing, tells-feed}
 use Rattle.number.proofs.Readings.{eight, settled}
 use Rattle.machine.specs.Values.{finds}
 
-pub finds-eight : (q : Format) (bytes : List ℕ) → finds q (take 8 bytes) ≡ finds q bytes
+finds-eight : (q : Format) (bytes : List ℕ) → finds q (take 8 bytes) ≡ finds q bytes
 unfolding finds
 finds-eight Integer bytes = sym (eight int bytes (reading int bytes) refl)
 finds-eight ByteText bytes = sym (eight byte bytes (reading byte bytes) refl)
 finds-eight Char [] = refl
 finds-eight Char (b ∷ bytes) = refl
+
+pub found_there : (q : Format) (r : Reading) (bytes waiting : List ℕ) → r ≡ finds q bytes → bytes ≡ take 8 waiting → r ≡ finds q waiting
+found_there q r bytes waiting e f = e ∙ (ap (finds q) f ∙ finds-eight q waiting)
 
 by_bool : (b : Bool) (v : ℤ) (n : ℕ) (x y : Reading) {B : Type 0} → (Took v n ≡ x → B) → (Took v n ≡ y → B) → Took v n ≡ cond b x y → B
 by_bool true v n x y f g h = f h

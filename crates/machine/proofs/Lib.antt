@@ -1,4 +1,5 @@
 pub mod Cells
+pub mod Operands
 pub mod Entries
 pub mod Passed
 pub mod Tables

@@ -1,43 +1,23 @@
 -- Operands passed to a called function. Assumes nothing.
-use Rattle.std.proofs.Common.{◌≡◌, ℕ, zero, suc, ◌+◌, ◌-◌, ◌<◌, ◌≤◌, List, [], ◌∷◌, ◌++◌, length, get_or, take, drop, set, replicate, ℤ, pos, sym, refl, ap, ◌∙◌, append_assoc, arith, length-append, length-drop, length-take, get_or-drop, take-suc}
+use Rattle.std.proofs.Common.{◌≡◌, ℕ, zero, suc, ◌-◌, ◌≤◌, List, [], ◌∷◌, ◌++◌, length, take, drop, reverse, replicate, ℤ, refl, ap, ◌∙◌, arith, length-append}
+use Rattle.std.proofs.lemmas.Grind.{reverse_onto}
+use Rattle.std.proofs.lemmas.List.{length-reverse, drop_all, drop-append-le}
 use Rattle.machine.specs.View.{down}
 use Rattle.machine.specs.States.{args}
 
-pub args_down : (xs : List ℤ) (lo n p : ℕ) → p ≤ n → lo + n ≤ length xs → args p (down xs lo n) ≡ take p (drop ((lo + n) - p) xs)
-unfolding args down
-args_down xs lo n zero h l = refl
-args_down xs lo zero (suc p) h l = let z : ⊥ = omega arith in absurd z
-args_down xs lo (suc n) (suc p) h l =
-    let r = args_down xs lo n p (omega arith) (omega arith) in
-    let e : (lo + suc n) - suc p ≡ (lo + n) - p = omega arith in
-    let k : p < length (drop ((lo + n) - p) xs) = simp length-drop (omega arith) in
-    let t = take-suc (drop ((lo + n) - p) xs) p (pos 0) k in
-    let g = get_or-drop ((lo + n) - p) xs p (pos 0) in
-    let i : ((lo + n) - p) + p ≡ lo + n = omega arith in
-    rw (e, t, g, i, r) refl
-
-set_seam : (a : List ℤ) (x : ℤ) (b : List ℤ) (v : ℤ) → set (a ++ (x ∷ b)) (length a) v ≡ a ++ (v ∷ b)
-set_seam [] x b v = refl
-set_seam (y ∷ ys) x b v = ap (λ (z : List ℤ). y ∷ z) (set_seam ys x b v)
-
-rep_one : (n m : ℕ) (a : ℤ) → n ≡ suc m → replicate n a ≡ a ∷ replicate m a
-rep_one n m a e = rw e refl
-
-pub pass_one : (xs : List ℤ) (base i p : ℕ) (v : ℤ) → i < p → p ≤ 64 → base + p ≤ length xs → v ≡ get_or xs (base + i) (pos 0)
-    → set (take i (drop base xs) ++ replicate (64 - i) (pos 0)) i v ≡ take (i + 1) (drop base xs) ++ replicate (64 - (i + 1)) (pos 0)
-pass_one xs base i p v h q l e =
-    let s = rep_one (64 - i) (64 - (i + 1)) (pos 0) (omega arith) in
-    let k : i < length (drop base xs) = simp length-drop (omega arith) in
-    let n : length (take i (drop base xs)) ≡ i = simp length-take (omega arith) in
-    let w = set_seam (take i (drop base xs)) (pos 0) (replicate (64 - (i + 1)) (pos 0)) v in
-    let w' : set (take i (drop base xs) ++ (pos 0 ∷ replicate (64 - (i + 1)) (pos 0))) i v ≡ take i (drop base xs) ++ (v ∷ replicate (64 - (i + 1)) (pos 0)) = rw n at w in
-    let t = take-suc (drop base xs) i (pos 0) k in
-    let g = get_or-drop base xs i (pos 0) in
-    let j : i + 1 ≡ suc i = omega arith in
-    let y : take (suc i) (drop base xs) ≡ take i (drop base xs) ++ (v ∷ []) = rw (t, g, e) refl in
-    let z : take (suc i) (drop base xs) ++ replicate (64 - (i + 1)) (pos 0) ≡ take i (drop base xs) ++ (v ∷ replicate (64 - (i + 1)) (pos 0)) = ap (λ (a : List ℤ). a ++ replicate (64 - (i + 1)) (pos 0)) y ∙ append_assoc (take i (drop base xs)) (v ∷ []) (replicate (64 - (i + 1)) (pos 0)) in
-    let x : take (i + 1) (drop base xs) ≡ take (suc i) (drop base xs) = ap (λ (m : ℕ). take m (drop base xs)) j in
-    ap (λ (a : List ℤ). set (take i (drop base xs) ++ a) i v) s ∙ (w' ∙ (sym z ∙ sym (ap (λ (a : List ℤ). a ++ replicate (64 - (i + 1)) (pos 0)) x)))
+-- the upper operands, as they lie in the cells
+pub args_are : (p : ℕ) (ops : List ℤ) → p ≤ length ops → drop (length (reverse ops) - p) (reverse ops) ≡ args p ops
+unfolding args
+args_are zero ops h = drop_all (length (reverse ops) - 0) (reverse ops) (omega arith)
+args_are (suc p) [] h = absurd (omega arith)
+args_are (suc p) (v ∷ ops) h =
+    let r = args_are p ops (omega arith) in
+    let o = reverse_onto ops v [] in
+    let l = length-reverse ops in
+    let m = length-reverse (v ∷ ops) in
+    let i : length (reverse (v ∷ ops)) - suc p ≡ length (reverse ops) - p = omega arith in
+    let a = drop-append-le (length (reverse ops) - p) (reverse ops) (v ∷ []) (omega arith) in
+    rw (i, o) (rw (a, r) refl)
 
 pub length-args : (p : ℕ) (ops : List ℤ) → p ≤ length ops → length (args p ops) ≡ p
 unfolding args

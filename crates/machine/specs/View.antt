@@ -60,4 +60,4 @@ tops xs zero = []
 tops xs (suc n) = seen (slice_index_or xs n blank) ∷ tops xs n
 
 unfoldable pub view : Core → State
-view m = state (tops m.activations m.depth.n) m.at
+view m = state (tops m.activations m.depth) m.at

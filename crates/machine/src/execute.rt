@@ -1,32 +1,26 @@
 // One step as far as no line is needed: what each instruction does to the machine.
-ghost use Rattle.std.specs.Prelude.{◌≡◌, ◌-◌, ◌<◌, ◌≤◌, [], IfSome, if◌then◌else◌, MatchBool};
+ghost use Rattle.std.specs.Prelude.{◌≡◌, ◌-◌, ◌<◌, ◌≤◌, IfSome, IfErr, OnOk, Result, Err};
 ghost use Rattle.machine.specs.View.{State, act_of, seen, state, view};
 ghost use Rattle.machine.specs.Acts.{pushed, dropped, act_by};
-ghost use Rattle.machine.specs.States.{concluded, settled, from_main, to_main, has_result, entry_at, called, left, returned, to_read, to_send, run, fetched, main_entry, advanced};
+ghost use Rattle.machine.specs.States.{concluded, settled, from_main, to_main, has_result, entry_at, called, left, returned, to_read, to_send, run, fetched, main_entry, advanced, undone};
 
-use crate::plan::{Cause, Effect, Plan};
-use crate::state::{Activation, Core, Depth};
+use crate::plan::{Cause, Fault, Flow, Plan, Site};
+use crate::state::{Activation, Core};
 use code::{Entry, Instruction, decode, decode_entry, node_of};
 use table::{Format, Kind, Scope};
 
-fn has_result(res: Option<Kind>) -> bool
-    ensures { result ≡ has_result res }
-{
-    match res {
-        None => false,
-        Some(_) => true,
-    }
-}
+// Bad code where no word stands, or at main's entry word.
+const NOWHERE: Fault = Fault {
+    cause: Cause::BadCode,
+    node: 0,
+};
 
 // The entry word of a function, if the code has it.
 fn entry_at(code: &[u64], function: usize) -> Option<Entry>
     ensures is { result ≡ entry_at code.now function }
     ensures few { IfSome result (λ e. (e.variables ≤ 32) × (e.parameters ≤ e.variables)) }
 {
-    if function >= code.len() {
-        return None;
-    }
-    decode_entry(code[function])
+    decode_entry(*code.get(function)?)
 }
 
 // Main's entry word, which has neither a result nor parameters.
@@ -34,10 +28,9 @@ fn main_entry(code: &[u64]) -> Option<Entry>
     ensures is { result ≡ main_entry code.now }
     ensures few { IfSome result (λ e. (e.variables ≤ 32) × (e.parameters ≡ 0)) }
 {
-    let Some(found) = entry_at(code, 0) else {
-        return None;
-    };
-    if has_result(found.result) {
+    // By `filter` the answer would be a closure's, with a contract of its own to say what these two tests say.
+    let found = entry_at(code, 0)?;
+    if found.result.is_some() {
         return None;
     }
     if found.parameters == 0 {
@@ -57,243 +50,230 @@ fn open(found: Entry, cells: [i16; 64], back: usize) -> Activation
         cells,
         variables,
         count: variables,
-        gives: has_result(found.result),
+        gives: found.result.is_some(),
         back,
     }
 }
 
-fn to_read(free: bool, format: Format, node: u16, next: usize) -> Plan
-    ensures { result ≡ to_read free format node next }
+fn to_read(free: bool, format: Format, site: Site) -> Result<Plan, Fault>
+    ensures { result ≡ to_read free format site.node site.next }
 {
     if free {
-        Plan::Read(format, node, next)
+        Ok(Plan::Read(format, site))
     } else {
-        Plan::Fault(Cause::BadCode, node)
+        Err(site.fault(Cause::BadCode))
     }
 }
 
-fn to_send(last: Option<i16>, format: Format, node: u16, next: usize) -> Plan
-    ensures { result ≡ to_send last format node next }
+fn to_send(last: Option<i16>, format: Format, site: Site) -> Result<Plan, Fault>
+    ensures { result ≡ to_send last format site.node site.next }
 {
-    match last {
-        None => Plan::Fault(Cause::BadCode, node),
-        Some(value) => Plan::Send(format, value, node, next),
-    }
+    let value = last.ok_or(site.fault(Cause::BadCode))?;
+    Ok(Plan::Send(format, value, site))
 }
 
+// `act`, `receive` and `release` differ in the act alone. As one function that takes the act as a closure they would be
+// no plainer: its contract would have to speak of every closure's effect on what an activation stands for.
 impl Core {
-    fn conclude(&mut self, effect: Effect, node: u16, next: usize) -> Plan
-        ensures { (view self.new, result) ≡ concluded effect node next (view self.old) }
+    fn conclude(&mut self, effect: Result<Flow, Cause>, site: Site) -> Result<Plan, Fault>
+        ensures { (view self.new, result) ≡ concluded effect site.node site.next (view self.old) }
     {
-        match effect {
-            Effect::Next => {
-                self.at = next;
-                Plan::Went
-            }
-            Effect::Aim(target) => {
-                self.at = target as usize;
-                Plan::Went
-            }
-            Effect::Wrong => Plan::Fault(Cause::BadCode, node),
-            Effect::Zero => Plan::Fault(Cause::ZeroDivisor, node),
-        }
+        let flow = effect.map_err(|cause| site.fault(cause))?;
+        self.at = flow.after(site.next);
+        Ok(Plan::Went)
     }
 
-    fn act(&mut self, instruction: Instruction, node: u16, next: usize) -> Plan
-        requires { 0 < self.old.depth.n }
-        ensures { (view self.new, result) ≡ settled (act_by instruction) node next (view self.old) }
+    // Here and below `_read` stands since the prover follows an element that is changed in a struct with a fact of its
+    // own only where one was read before.
+    fn act(&mut self, instruction: Instruction, site: Site) -> Result<Plan, Fault>
+        requires { 0 < self.old.depth }
+        ensures { (view self.new, result) ≡ settled (act_by instruction) site.node site.next (view self.old) }
     {
-        let top = self.depth.n - 1;
+        let top = self.depth - 1;
+        let _read = &self.activations[top];
         let effect = self.activations[top].act(instruction);
-        self.conclude(effect, node, next)
+        self.conclude(effect, site)
     }
 
     // One operand more on the newest activation, if there is one.
-    pub fn receive(&mut self, value: i16, node: u16, next: usize) -> Plan
-        ensures { (view self.new, result) ≡ settled (pushed value) node next (view self.old) }
+    pub fn receive(&mut self, value: i16, site: Site) -> Result<Plan, Fault>
+        ensures { (view self.new, result) ≡ settled (pushed value) site.node site.next (view self.old) }
     {
-        if self.depth.n == 0 {
-            return Plan::Fault(Cause::BadCode, node);
+        if self.depth == 0 {
+            return Err(site.fault(Cause::BadCode));
         }
-        let top = self.depth.n - 1;
+        let top = self.depth - 1;
+        let _read = &self.activations[top];
         let effect = self.activations[top].push(value);
-        self.conclude(effect, node, next)
+        self.conclude(effect, site)
     }
 
     // One operand fewer on the newest activation, if there is one.
-    pub fn release(&mut self, node: u16, next: usize) -> Plan
-        ensures { (view self.new, result) ≡ settled dropped node next (view self.old) }
+    pub fn release(&mut self, site: Site) -> Result<Plan, Fault>
+        ensures { (view self.new, result) ≡ settled dropped site.node site.next (view self.old) }
     {
-        if self.depth.n == 0 {
-            return Plan::Fault(Cause::BadCode, node);
+        if self.depth == 0 {
+            return Err(site.fault(Cause::BadCode));
         }
-        let top = self.depth.n - 1;
+        let top = self.depth - 1;
+        let _read = &self.activations[top];
         let effect = self.activations[top].discard();
-        self.conclude(effect, node, next)
+        self.conclude(effect, site)
     }
 
-    fn load_main(&mut self, slot: usize, node: u16, next: usize) -> Plan
-        requires { 0 < self.old.depth.n }
-        ensures { (view self.new, result) ≡ from_main slot node next (view self.old) }
+    fn load_main(&mut self, slot: usize, site: Site) -> Result<Plan, Fault>
+        requires { 0 < self.old.depth }
+        ensures { (view self.new, result) ≡ from_main slot site.node site.next (view self.old) }
     {
-        match self.activations[0].variable(slot) {
-            None => Plan::Fault(Cause::BadCode, node),
-            Some(value) => self.receive(value, node, next),
-        }
+        let value = self.activations[0]
+            .variable(slot)
+            .ok_or(site.fault(Cause::BadCode))?;
+        self.receive(value, site)
     }
 
-    fn store_main(&mut self, slot: usize, node: u16, next: usize) -> Plan
-        requires { 0 < self.old.depth.n }
-        ensures { (view self.new, result) ≡ to_main slot node next (view self.old) }
+    fn store_main(&mut self, slot: usize, site: Site) -> Result<Plan, Fault>
+        requires { 0 < self.old.depth }
+        ensures { (view self.new, result) ≡ to_main slot site.node site.next (view self.old) }
     {
-        let top = self.depth.n - 1;
-        let Some(value) = self.activations[top].last() else {
-            return Plan::Fault(Cause::BadCode, node);
-        };
+        let top = self.depth - 1;
+        let value = self.activations[top]
+            .last()
+            .ok_or(site.fault(Cause::BadCode))?;
         if !self.activations[0].has(slot) {
-            return Plan::Fault(Cause::BadCode, node);
+            return Err(site.fault(Cause::BadCode));
         }
         self.activations[0].assign(slot, value);
         let _ = self.activations[top].discard();
-        self.at = next;
-        Plan::Went
+        self.at = site.next;
+        Ok(Plan::Went)
     }
 
-    fn call(&mut self, function: u32, node: u16, next: usize, code: &[u64]) -> Plan
-        requires { 0 < self.old.depth.n }
-        ensures { (view self.new, result) ≡ called code.now function node next (view self.old) }
+    fn call(&mut self, function: u32, site: Site, code: &[u64]) -> Result<Plan, Fault>
+        requires { 0 < self.old.depth }
+        ensures { (view self.new, result) ≡ called code.now function site.node site.next (view self.old) }
     {
-        let Some(found) = entry_at(code, function as usize) else {
-            return Plan::Fault(Cause::BadCode, node);
-        };
-        let depth = self.depth.n;
+        let found = entry_at(code, function as usize).ok_or(site.fault(Cause::BadCode))?;
+        let depth = self.depth;
         let given = usize::from(found.parameters);
-        if self.activations[depth - 1].operands() < given {
-            return Plan::Fault(Cause::BadCode, node);
+        if self.activations[depth - 1].operands().len() < given {
+            return Err(site.fault(Cause::BadCode));
         }
         if depth >= 32 {
-            return Plan::Fault(Cause::TooDeep, node);
+            return Err(site.fault(Cause::TooDeep));
         }
         let cells = self.activations[depth - 1].arguments(given);
         self.activations[depth - 1].release(given);
-        self.activations[depth] = open(found, cells, next);
-        self.depth = Depth { n: depth + 1 };
+        self.activations[depth] = open(found, cells, site.next);
+        self.depth = depth + 1;
         self.at = usize::from(found.address);
-        Plan::Went
+        Ok(Plan::Went)
     }
 
-    fn leave(&mut self, cause: Cause, node: u16) -> Plan
-        requires { 0 < self.old.depth.n }
-        ensures { (view self.new, result) ≡ left cause node (view self.old) }
+    fn leave(&mut self, cause: Cause, site: Site) -> Result<Plan, Fault>
+        requires { 0 < self.old.depth }
+        ensures { (view self.new, result) ≡ left cause site.node (view self.old) }
     {
-        let top = self.depth.n - 1;
+        let top = self.depth - 1;
         if top == 0 {
-            return Plan::Over;
+            return Ok(Plan::Over);
         }
         if self.activations[top].gives {
-            return Plan::Fault(cause, node);
+            return Err(site.fault(cause));
         }
         self.at = self.activations[top].back;
-        self.depth = Depth { n: top };
-        Plan::Went
+        self.depth = top;
+        Ok(Plan::Went)
     }
 
-    fn give_back(&mut self, node: u16) -> Plan
-        requires { 0 < self.old.depth.n }
-        ensures { (view self.new, result) ≡ returned node (view self.old) }
+    fn give_back(&mut self, site: Site) -> Result<Plan, Fault>
+        requires { 0 < self.old.depth }
+        ensures { (view self.new, result) ≡ returned site.node (view self.old) }
     {
-        let top = self.depth.n - 1;
+        let top = self.depth - 1;
         if top == 0 {
-            return Plan::Fault(Cause::BadCode, node);
+            return Err(site.fault(Cause::BadCode));
         }
         if !self.activations[top].gives {
-            return Plan::Fault(Cause::BadCode, node);
+            return Err(site.fault(Cause::BadCode));
         }
-        let Some(value) = self.activations[top].last() else {
-            return Plan::Fault(Cause::BadCode, node);
-        };
+        let value = self.activations[top]
+            .last()
+            .ok_or(site.fault(Cause::BadCode))?;
         if !self.activations[top - 1].free() {
-            return Plan::Fault(Cause::BadCode, node);
+            return Err(site.fault(Cause::BadCode));
         }
         self.at = self.activations[top].back;
         let _ = self.activations[top - 1].push(value);
-        self.depth = Depth { n: top };
-        Plan::Went
+        self.depth = top;
+        Ok(Plan::Went)
     }
 
-    fn run(&mut self, instruction: Instruction, node: u16, next: usize, code: &[u64]) -> Plan
-        requires { 0 < self.old.depth.n }
-        ensures { (view self.new, result) ≡ run instruction node next code.now (view self.old) }
+    fn run(&mut self, instruction: Instruction, site: Site, code: &[u64]) -> Result<Plan, Fault>
+        requires { 0 < self.old.depth }
+        ensures { (view self.new, result) ≡ run instruction site.node site.next code.now (view self.old) }
     {
         match instruction {
-            Instruction::Variable(Scope::Main, slot) => self.load_main(slot as usize, node, next),
-            Instruction::Assign(Scope::Main, slot) => self.store_main(slot as usize, node, next),
-            Instruction::Call(function) => self.call(function, node, next, code),
-            Instruction::Perform(function) => self.call(function, node, next, code),
-            Instruction::Exit => self.leave(Cause::BadCode, node),
-            Instruction::Close => self.leave(Cause::NoReturn, node),
-            Instruction::Return => self.give_back(node),
+            Instruction::Variable(Scope::Main, slot) => self.load_main(slot as usize, site),
+            Instruction::Assign(Scope::Main, slot) => self.store_main(slot as usize, site),
+            Instruction::Call(function) => self.call(function, site, code),
+            Instruction::Perform(function) => self.call(function, site, code),
+            Instruction::Exit => self.leave(Cause::BadCode, site),
+            Instruction::Close => self.leave(Cause::NoReturn, site),
+            Instruction::Return => self.give_back(site),
             Instruction::Read(format) => {
-                let free = self.activations[self.depth.n - 1].free();
-                to_read(free, format, node, next)
+                let free = self.activations[self.depth - 1].free();
+                to_read(free, format, site)
             }
             Instruction::Write(format) => {
-                let last = self.activations[self.depth.n - 1].last();
-                to_send(last, format, node, next)
+                let last = self.activations[self.depth - 1].last();
+                to_send(last, format, site)
             }
-            _ => self.act(instruction, node, next),
+            _ => self.act(instruction, site),
         }
     }
 
-    fn fetch(&mut self, code: &[u64]) -> Plan
-        requires { 0 < self.old.depth.n }
+    fn fetch(&mut self, code: &[u64]) -> Result<Plan, Fault>
+        requires { 0 < self.old.depth }
         ensures { (view self.new, result) ≡ fetched code.now (view self.old) }
     {
-        if self.at >= code.len() {
-            return Plan::Fault(Cause::BadCode, 0);
-        }
-        let word = code[self.at];
-        let node = node_of(word);
-        match decode(word) {
-            None => Plan::Fault(Cause::BadCode, node),
-            Some(instruction) => self.run(instruction, node, self.at + 1, code),
-        }
+        let word = *code.get(self.at).ok_or(NOWHERE)?;
+        let site = Site {
+            node: node_of(word),
+            next: self.at + 1,
+        };
+        let instruction = decode(word).ok_or(site.fault(Cause::BadCode))?;
+        self.run(instruction, site, code)
     }
 
-    // Sees to it that main is open; answers whether it is.
-    fn start(&mut self, code: &[u64]) -> bool
-        ensures { MatchBool result ((fetched code.now (view self.new) ≡ advanced code.now (view self.old)) × (0 < self.new.depth.n))
-            (◌≡◌ {A = State × Plan} (view self.new, Plan.Fault Cause.BadCode 0) (advanced code.now (view self.old))) }
+    // Sees to it that main is open.
+    fn start(&mut self, code: &[u64]) -> Result<(), Fault>
+        ensures opens { OnOk result ((fetched code.now (view self.new) ≡ advanced code.now (view self.old)) × (0 < self.new.depth)) }
+        ensures refuses { IfErr result (λ f. ◌≡◌ {A = State × Result Plan Fault} (view self.new, Err f) (advanced code.now (view self.old))) }
     {
-        if self.depth.n > 0 {
-            return true;
+        if self.depth > 0 {
+            return Ok(());
         }
-        let Some(found) = main_entry(code) else {
-            return false;
-        };
+        let found = main_entry(code).ok_or(NOWHERE)?;
         self.activations[0] = open(found, [0; 64], 0);
-        self.depth = Depth { n: 1 };
+        self.depth = 1;
         self.at = usize::from(found.address);
-        true
+        Ok(())
     }
 
     // A step as far as no line is needed; the first one opens main.
-    pub fn advance(&mut self, code: &[u64]) -> Plan
+    pub fn advance(&mut self, code: &[u64]) -> Result<Plan, Fault>
         ensures { (view self.new, result) ≡ advanced code.now (view self.old) }
     {
-        if self.start(code) {
-            self.fetch(code)
-        } else {
-            Plan::Fault(Cause::BadCode, 0)
-        }
+        self.start(code)?;
+        self.fetch(code)
     }
 
-    // Takes the opening of main back, if it was opened in this step.
-    pub fn undo(&mut self, first: bool, at: usize)
-        ensures { view self.new ≡ (if first then state [] at else view self.old) }
+    // Takes the opening of main back, if it was opened in this step: then `closed` is where the machine stood before.
+    pub fn undo(&mut self, closed: Option<usize>)
+        ensures { view self.new ≡ undone closed (view self.old) }
     {
-        if first {
-            self.depth = Depth { n: 0 };
+        if let Some(at) = closed {
+            self.depth = 0;
             self.at = at;
         }
     }

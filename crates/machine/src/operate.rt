@@ -3,7 +3,7 @@ ghost use Rattle.std.specs.Prelude.{◌≡◌};
 ghost use Rattle.machine.specs.Values.{apply_unary, binary_in, apply_binary, compared_in, compared};
 ghost use Rattle.machine.specs.Acts.{jumping};
 
-use crate::plan::Effect;
+use crate::plan::Flow;
 use number::{Byte, Int, NumberKind};
 use table::{Binary, Comparison, Kind, Unary};
 
@@ -66,12 +66,12 @@ pub fn compare(comparison: Comparison, kind: Kind, x: i16, y: i16) -> bool
 }
 
 // Where a jump leads that is made when the truth is the sense.
-pub fn jump_if(sense: bool, target: u32, truth: bool) -> Effect
+pub fn jump_if(sense: bool, target: u32, truth: bool) -> Flow
     ensures { result ≡ jumping sense target truth }
 {
     if truth == sense {
-        Effect::Aim(target)
+        Flow::Aim(target)
     } else {
-        Effect::Next
+        Flow::Next
     }
 }

@@ -5,8 +5,8 @@ ghost use Rattle.machine.specs.States.{main_variables};
 ghost use Rattle.machine.specs.Steps.{world, latch_of, outcome_of, stepped, StepLaws, Held};
 
 use crate::message::{compose, find};
-use crate::plan::{Cause, Latch, Outcome, Plan};
-use crate::state::{Activation, Core, Depth, Machine};
+use crate::plan::{Cause, Fault, Latch, Outcome, Plan};
+use crate::state::{Activation, Core, Machine};
 use line::{Line, peek, send_text};
 use number::Reading;
 
@@ -26,7 +26,7 @@ impl Machine {
         Machine {
             core: Core {
                 activations: [blank; 32],
-                depth: Depth { n: 0 },
+                depth: 0,
                 at: 0,
             },
             latch: Latch::Open,
@@ -37,32 +37,29 @@ impl Machine {
     pub fn main_variable(&self, slot: usize) -> i16
         ensures { result ≡ slice_index_or (main_variables (view self.now.core).acts) slot (pos 0) }
     {
-        if self.core.depth.n == 0 {
+        if self.core.depth == 0 {
             return 0;
         }
-        match self.core.activations[0].variable(slot) {
-            None => 0,
-            Some(value) => value,
-        }
+        self.core.activations[0].variable(slot).unwrap_or(0)
     }
 
     // Keeps an end or a fault.
-    fn settle(&mut self, plan: Plan) -> Outcome
+    fn settle(&mut self, end: Result<Plan, Fault>) -> Outcome
         requires { self.old.latch ≡ Latch.Open }
         ensures core { self.new.core ≡ self.old.core }
-        ensures latch { self.new.latch ≡ latch_of plan }
-        ensures outcome { result ≡ outcome_of plan }
+        ensures latch { self.new.latch ≡ latch_of end }
+        ensures outcome { result ≡ outcome_of end }
     {
-        match plan {
-            Plan::Over => {
+        match end {
+            Ok(Plan::Over) => {
                 self.latch = Latch::Ended;
                 Outcome::Ended
             }
-            Plan::Fault(cause, node) => {
+            Err(Fault { cause, node }) => {
                 self.latch = Latch::Failed(cause, node);
                 Outcome::Failed(cause, node)
             }
-            _ => Outcome::Went,
+            Ok(_) => Outcome::Went,
         }
     }
 
@@ -80,30 +77,31 @@ impl Machine {
             Latch::Failed(cause, node) => return Outcome::Failed(cause, node),
             Latch::Open => {}
         }
-        let first = self.core.depth.n == 0;
-        let at = self.core.at;
+        let closed = (self.core.depth == 0).then_some(self.core.at);
         match self.core.advance(code) {
-            Plan::Read(format, node, next) => match find(format, peek(line).as_bytes()) {
+            Err(fault) => self.settle(Err(fault)),
+            Ok(Plan::Went) => Outcome::Went,
+            Ok(Plan::Over) => self.settle(Ok(Plan::Over)),
+            Ok(Plan::Read(format, site)) => match find(format, peek(line).as_bytes()) {
                 Reading::Wait => {
-                    self.core.undo(first, at);
+                    self.core.undo(closed);
                     Outcome::Waits
                 }
-                Reading::Refused => self.settle(Plan::Fault(Cause::RefusedText, node)),
+                Reading::Refused => self.settle(Err(site.fault(Cause::RefusedText))),
                 Reading::Took { value, count } => {
                     let _ = line.take(count);
-                    let plan = self.core.receive(value, node, next);
-                    self.settle(plan)
+                    let end = self.core.receive(value, site);
+                    self.settle(end)
                 }
             },
-            Plan::Send(format, value, node, next) => {
+            Ok(Plan::Send(format, value, site)) => {
                 if send_text(line, compose(format, value).as_bytes()) {
-                    let plan = self.core.release(node, next);
-                    self.settle(plan)
+                    let end = self.core.release(site);
+                    self.settle(end)
                 } else {
-                    self.settle(Plan::Fault(Cause::NoRoom, node))
+                    self.settle(Err(site.fault(Cause::NoRoom)))
                 }
             }
-            plan => self.settle(plan),
         }
     }
 }

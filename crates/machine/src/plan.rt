@@ -1,6 +1,8 @@
 // What an act, a plan and a step come to.
 ghost use Rattle.std.specs.Prelude.{◌≡◌};
 ghost use Rattle.machine.specs.View.{cause_number};
+ghost use Rattle.machine.specs.Acts.{after};
+ghost use Rattle.machine.specs.States.{fault};
 
 use table::Format;
 
@@ -30,27 +32,62 @@ impl Cause {
     }
 }
 
-// What an act on one activation comes to: go on behind the word, go on elsewhere, bad code, a zero divisor.
+// Where a machine goes on after an act of one activation: behind the word, or elsewhere.
 #[derive(Clone, Copy)]
-pub enum Effect {
+pub enum Flow {
     Next,
     Aim(u32),
-    Wrong,
-    Zero,
 }
 
-// What a step comes to as far as no line is needed. A read and a send still have to be performed; they tell the node
-// and the address behind the word, and a send its operand.
+impl Flow {
+    // The address, after a word behind which the next one stands at `next`.
+    pub fn after(self, next: usize) -> usize
+        ensures { result ≡ after self next }
+    {
+        match self {
+            Flow::Next => next,
+            Flow::Aim(target) => target as usize,
+        }
+    }
+}
+
+// Where a word stands: its node, and the address behind it.
+#[derive(Clone, Copy)]
+pub struct Site {
+    pub node: u16,
+    pub next: usize,
+}
+
+// Why a step stops, and the node of its word.
+#[derive(Clone, Copy)]
+pub struct Fault {
+    pub cause: Cause,
+    pub node: u16,
+}
+
+impl Site {
+    // A fault of the word.
+    pub fn fault(self, cause: Cause) -> Fault
+        ensures { result ≡ fault cause self.node }
+    {
+        Fault {
+            cause,
+            node: self.node,
+        }
+    }
+}
+
+// What a step that is no fault comes to as far as no line is needed. A read and a send still have to be performed; they
+// tell their word, and a send its operand.
 #[derive(Clone, Copy)]
 pub enum Plan {
     Went,
     Over,
-    Fault(Cause, u16),
-    Read(Format, u16, usize),
-    Send(Format, i16, u16, usize),
+    Read(Format, Site),
+    Send(Format, i16, Site),
 }
 
-// How a machine has stopped for good, if it has.
+// How a machine has stopped for good, if it has. It is no `Result`: it is a state that is kept, and nothing goes on from it.
 #[derive(Clone, Copy)]
 pub enum Latch {
     Open,
@@ -58,7 +95,8 @@ pub enum Latch {
     Failed(Cause, u16),
 }
 
-// What a step came to. A wait is no step and changes nothing.
+// What a step came to. A wait is no step and changes nothing. It is no `Result`: the answers are four that a host tells
+// apart, and an end and a wait are no errors.
 #[derive(Clone, Copy)]
 pub enum Outcome {
     Went,

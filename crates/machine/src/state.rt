@@ -3,7 +3,8 @@ ghost use Rattle.std.specs.Prelude.{◌≤◌};
 
 use crate::plan::Latch;
 
-// One call of a function that has not yet closed. Its variables are the first cells, its operands the next.
+// One call of a function that has not yet closed. Its variables are the first cells, its operands the next. The counts
+// stand beside the cells since a controller has no heap and C hosts read this layout.
 #[derive(Clone, Copy)]
 pub struct Activation {
     pub cells: [i16; 64],
@@ -14,19 +15,14 @@ pub struct Activation {
     ghost ok: { (variables ≤ count) × (count ≤ 64) },
 }
 
-// How many activations are open.
-#[derive(Clone, Copy)]
-pub struct Depth {
-    pub n: usize,
-    ghost ok: { n ≤ 32 },
-}
-
-// The activations, main's first, and the address of the next word. None is open before the first step.
+// The activations, main's first, how many are open, and the address of the next word. None is open before the first
+// step. The number stands beside the table for the same two reasons.
 #[derive(Drop)]
 pub struct Core {
     pub activations: [Activation; 32],
-    pub depth: Depth,
+    pub depth: usize,
     pub at: usize,
+    ghost few: { depth ≤ 32 },
 }
 
 #[derive(Drop)]

@@ -1,18 +1,23 @@
+use Rattle.std.proofs.Common.{◌≡◌, None, rules}
+use Rattle.machine.specs.States.{entry_at}
 use Rattle.machine.proofs.Entries.{main_none, main-result, main-given, main-plain}
 use Rattle.machine.proofs.execute.main_entry.Goals as goal
 
-pub returns-in_default : goal.returns-in_default
-returns-in_default c = record { is = main_none c.args.code.now c.in_default.ensures.is; few = tt }
+pub returns-in_err-found-clause-is : goal.returns-in_err-found-clause-is
+returns-in_err-found-clause-is c =
+    let r : c.from_residual.result ≡ None = search rules in
+    let e : None ≡ entry_at c.args.code.now 0 = search rules in
+    rw r (main_none c.args.code.now e)
 
-pub returns-then-has_result : goal.returns-then-has_result
-returns-then-has_result c = record { is = main-result c.args.code.now c.in-Some.found c.in-Some.ensures.is c.if-has_result.ensures; few = tt }
+pub returns-then-is_some : goal.returns-then-is_some
+returns-then-is_some c = record { is = main-result c.args.code.now c.in_ok-found.found c.in_ok-found.ensures.is c.if-is_some.ensures; few = tt }
 
 pub returns-then-found-eq0 : goal.returns-then-found-eq0
 returns-then-found-eq0 c =
     record {
-      is = main-plain c.args.code.now c.in-Some.found c.in-Some.ensures.is c.if-has_result.ensures c.if-found-eq0.true;
-      few = (c.in-Some.ensures.few.0, c.if-found-eq0.true);
+      is = main-plain c.args.code.now c.in_ok-found.found c.in_ok-found.ensures.is c.if-is_some.ensures c.if-found-eq0.true;
+      few = (c.in_ok-found.ensures.few.0, c.if-found-eq0.true);
     }
 
 pub returns-else-found-eq0 : goal.returns-else-found-eq0
-returns-else-found-eq0 c = record { is = main-given c.args.code.now c.in-Some.found c.in-Some.ensures.is c.if-has_result.ensures c.if-found-eq0.false; few = tt }
+returns-else-found-eq0 c = record { is = main-given c.args.code.now c.in_ok-found.found c.in_ok-found.ensures.is c.if-is_some.ensures c.if-found-eq0.false; few = tt }

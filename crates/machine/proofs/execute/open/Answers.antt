@@ -4,4 +4,4 @@ use Rattle.machine.proofs.execute.open.Goals as goal
 
 pub returns : goal.returns
 unfolding seen
-returns c = rw (c.from-variables.ensures, c.has_result.ensures) refl
+returns c = rw (c.from-variables.ensures, c.is_some.ensures) refl

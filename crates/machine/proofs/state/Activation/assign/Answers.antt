@@ -8,10 +8,9 @@ pub returns-then-slot-self : goal.returns-then-slot-self
 unfolding seen
 returns-then-slot-self c =
     let l : length c.args.self.now.cells ≡ 64 = search rules in
-    simp (to_z-of_z w16 c.args.value c.ranges.value) (set_var c.args.self.now.cells c.args.self.now.variables c.args.self.now.count c.args.self.now.gives c.args.self.now.back l c.args.self.now.ok.0 c.args.self.now.ok.1 c.args.slot c.args.self.now.count c.args.value c.if-slot-self.true)
+    simp (to_z-of_z w16 c.args.value c.ranges.value) (set_var c.args.self.now l c.args.slot c.args.value c.if-slot-self.true)
 
 pub returns-else-slot-self : goal.returns-else-slot-self
-unfolding seen
 returns-else-slot-self c =
     let l : length c.args.self.now.cells ≡ 64 = search rules in
-    set_none c.args.self.now.cells c.args.self.now.variables c.args.self.now.count c.args.self.now.gives c.args.self.now.back l c.args.self.now.ok.0 c.args.self.now.ok.1 c.args.slot c.args.self.now.count c.args.value c.if-slot-self.false
+    set_none c.args.self.now l c.args.slot c.args.value c.if-slot-self.false

@@ -1,15 +1,12 @@
-use Rattle.machine.specs.View.{seen, act_of}
-use Rattle.machine.specs.Acts.{with_ops, dropped}
-use Rattle.machine.specs.declared.plan.Effect.TheVariants.{Next}
-use Rattle.machine.proofs.Cells.{one_none, one-there}
+use Rattle.std.proofs.Common.{◌≡◌, Err, rules}
+use Rattle.machine.specs.View.{seen}
+use Rattle.machine.proofs.Operands.{off, drop_err, drop_ok}
 use Rattle.machine.proofs.state.Activation.discard.Goals as goal
 
-pub returns-then-self : goal.returns-then-self
-unfolding seen dropped
-returns-then-self c =
-    one_none c.args.self.now.cells c.args.self.now.variables c.args.self.now.count c.args.self.now.gives c.args.self.now.back (λ x s. (with_ops (act_of c.args.self.now.cells c.args.self.now.variables c.args.self.now.count c.args.self.now.gives c.args.self.now.back) s, Next)) c.if-self.true
+pub returns-in_err-pop : goal.returns-in_err-pop
+returns-in_err-pop c =
+    let r : c.from_residual.result ≡ Err c.in_err-pop.field-0.0 = search rules in
+    rw r (drop_err (seen c.args.self.now) _ _ c.in_err-pop.ensures)
 
 pub returns : goal.returns
-unfolding seen dropped
-returns c =
-    one-there c.args.self.now.cells c.args.self.now.variables c.args.self.now.count c.args.self.now.gives c.args.self.now.back (λ x s. (with_ops (act_of c.args.self.now.cells c.args.self.now.variables c.args.self.now.count c.args.self.now.gives c.args.self.now.back) s, Next)) c.if-self.false
+returns c = drop_ok (seen c.args.self.now) _ _ (off (seen c.args.self.now) _ _ c.in_ok-pop.ensures)

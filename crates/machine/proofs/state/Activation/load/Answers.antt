@@ -1,18 +1,21 @@
-use Rattle.std.proofs.Common.{◌≡◌, length, get_or, pos, ◌∙◌, w16, SFits, rules}
+use Rattle.std.proofs.Common.{◌≡◌, Some, None, Err, ◌∙◌, w16, SFits, rules}
 use Rattle.std.proofs.lemmas.Int.{to_z-of_z}
 use Rattle.machine.specs.View.{seen}
-use Rattle.machine.proofs.Cells.{load_none, load_there}
+use Rattle.machine.specs.Acts.{pushed}
+use Rattle.machine.specs.States.{variable_at}
+use Rattle.machine.specs.declared.plan.Cause.TheVariants.{BadCode}
+use Rattle.machine.proofs.Operands.{load_none, load_some}
 use Rattle.machine.proofs.state.Activation.load.Goals as goal
 
-pub returns-then-slot-self : goal.returns-then-slot-self
-unfolding seen
-returns-then-slot-self c =
-    let l : length c.args.self.now.cells ≡ 64 = search rules in
-    load_none c.args.self.now.cells c.args.self.now.variables c.args.self.now.count c.args.self.now.gives c.args.self.now.back l c.args.self.now.ok.0 c.args.self.now.ok.1 c.args.slot c.if-slot-self.true
+pub returns-in_err-value : goal.returns-in_err-value
+returns-in_err-value c =
+    let r : c.from_residual.result ≡ Err BadCode = search rules in
+    let e : None ≡ variable_at (seen c.args.self.now).vars c.args.slot = search rules in
+    rw r (load_none c.args.slot (seen c.args.self.now) e)
 
 pub returns : goal.returns
-unfolding seen
 returns c =
-    let l : length c.args.self.now.cells ≡ 64 = search rules in
-    let f : SFits w16 (get_or c.args.self.now.cells c.args.slot (pos 0)) = search rules in
-    c.push.ensures ∙ load_there c.args.self.now.cells c.args.self.now.variables c.args.self.now.count c.args.self.now.gives c.args.self.now.back l c.args.self.now.ok.0 c.args.self.now.ok.1 c.args.slot _ c.if-slot-self.false (to_z-of_z w16 _ f)
+    let f : SFits w16 c.in_ok-value.value = search rules in
+    let e : Some c.in_ok-value.value ≡ variable_at (seen c.args.self.now).vars c.args.slot = search rules in
+    let p : (seen c.push.new.self, c.push.result) ≡ pushed c.in_ok-value.value (seen c.args.self.now) = simp to_z-of_z at c.push.ensures in
+    p ∙ load_some c.args.slot (seen c.args.self.now) c.in_ok-value.value e

@@ -5,13 +5,12 @@ use Rattle.machine.proofs.Cells.{push_full, push_room}
 use Rattle.machine.proofs.state.Activation.push.Goals as goal
 
 pub returns-then-self-ge64 : goal.returns-then-self-ge64
-unfolding seen
 returns-then-self-ge64 c =
     let l : length c.args.self.now.cells ≡ 64 = search rules in
-    push_full c.args.self.now.cells c.args.self.now.variables c.args.self.now.count c.args.self.now.gives c.args.self.now.back l c.args.self.now.ok.0 c.args.self.now.ok.1 c.args.value c.if-self-ge64.true
+    push_full c.args.self.now l c.args.value c.if-self-ge64.true
 
 pub returns : goal.returns
 unfolding seen
 returns c =
     let l : length c.args.self.now.cells ≡ 64 = search rules in
-    simp (to_z-of_z w16 c.args.value c.ranges.value) (push_room c.args.self.now.cells c.args.self.now.variables c.args.self.now.count c.args.self.now.gives c.args.self.now.back l c.args.self.now.ok.0 c.args.self.now.ok.1 c.args.value c.if-self-ge64.false)
+    simp (to_z-of_z w16 c.args.value c.ranges.value) (push_room c.args.self.now l c.args.value c.if-self-ge64.false)

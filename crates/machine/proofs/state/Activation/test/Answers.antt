@@ -1,20 +1,19 @@
-use Rattle.std.proofs.Common.{◌≡◌, ◌-◌, get_or, pos, ap, ◌∙◌, w16, SFits, rules}
+use Rattle.std.proofs.Common.{◌≡◌, Err, w16, SFits, rules}
 use Rattle.std.proofs.lemmas.Int.{to_z-of_z}
-use Rattle.machine.specs.View.{seen, act_of, down}
+use Rattle.machine.specs.View.{seen}
 use Rattle.machine.specs.Values.{is_true}
-use Rattle.machine.specs.Acts.{with_ops, tested, jumping}
-use Rattle.machine.specs.declared.plan.Effect.{Effect}
-use Rattle.machine.proofs.Cells.{one_none, one-there}
+use Rattle.machine.proofs.Operands.{off, test_err, test_ok}
 use Rattle.machine.proofs.state.Activation.test.Goals as goal
 
-pub returns-then-self : goal.returns-then-self
-unfolding seen tested
-returns-then-self c =
-    one_none c.args.self.now.cells c.args.self.now.variables c.args.self.now.count c.args.self.now.gives c.args.self.now.back (λ x s. (with_ops (act_of c.args.self.now.cells c.args.self.now.variables c.args.self.now.count c.args.self.now.gives c.args.self.now.back) s, jumping c.args.sense c.args.target (is_true x))) c.if-self.true
+pub returns-in_err-value : goal.returns-in_err-value
+returns-in_err-value c =
+    let r : c.from_residual.result ≡ Err c.in_err-value.field-0.0 = search rules in
+    rw r (test_err (seen c.args.self.now) _ c.args.sense c.args.target _ c.in_err-value.ensures)
 
 pub returns : goal.returns
-unfolding seen tested is_true
+unfolding is_true
 returns c =
-    let f : SFits w16 (get_or c.args.self.now.cells (c.args.self.now.count - 1) (pos 0)) = search rules in
-    let e : c.is_true-truth.result ≡ is_true (get_or c.args.self.now.cells (c.args.self.now.count - 1) (pos 0)) = simp to_z-of_z at c.is_true-truth.ensures in
-    ap (λ (z : Effect). (with_ops (act_of c.args.self.now.cells c.args.self.now.variables c.args.self.now.count c.args.self.now.gives c.args.self.now.back) (down c.args.self.now.cells c.args.self.now.variables ((c.args.self.now.count - 1) - c.args.self.now.variables)), z)) (c.jump_if.ensures ∙ ap (jumping c.args.sense c.args.target) e) ∙ one-there c.args.self.now.cells c.args.self.now.variables c.args.self.now.count c.args.self.now.gives c.args.self.now.back (λ x s. (with_ops (act_of c.args.self.now.cells c.args.self.now.variables c.args.self.now.count c.args.self.now.gives c.args.self.now.back) s, jumping c.args.sense c.args.target (is_true x))) c.if-self.false
+    let f : SFits w16 c.in_ok-value.value = search rules in
+    let o = off (seen c.args.self.now) _ _ c.in_ok-value.ensures in
+    let t : c.is_true.result ≡ is_true c.in_ok-value.value = simp to_z-of_z at c.is_true.ensures in
+    rw (c.jump_if.ensures, t) (test_ok (seen c.args.self.now) (seen c.pop.new.self) c.args.sense c.args.target c.in_ok-value.value o)

@@ -1,18 +1,9 @@
-use Rattle.std.proofs.Common.{◌≡◌, length, get_or, pos, w16, SFits, rules}
-use Rattle.std.proofs.lemmas.Int.{to_z-of_z}
-use Rattle.machine.specs.View.{seen}
-use Rattle.machine.proofs.Cells.{variable_none, variable-there}
+use Rattle.std.proofs.Common.{List, ℤ, pos, ap, ◌∙◌, arith}
+use Rattle.machine.specs.States.{variable_at}
+use Rattle.machine.proofs.Cells.{looked_up}
 use Rattle.machine.proofs.state.Activation.variable.Goals as goal
 
-pub returns-then-slot-self : goal.returns-then-slot-self
-unfolding seen
-returns-then-slot-self c =
-    let l : length c.args.self.now.cells ≡ 64 = search rules in
-    variable_none c.args.self.now.cells c.args.self.now.variables c.args.self.now.count c.args.self.now.gives c.args.self.now.back l c.args.self.now.ok.0 c.args.self.now.ok.1 c.args.slot c.if-slot-self.true
-
 pub returns : goal.returns
-unfolding seen
 returns c =
-    let l : length c.args.self.now.cells ≡ 64 = search rules in
-    let f : SFits w16 (get_or c.args.self.now.cells c.args.slot (pos 0)) = search rules in
-    variable-there c.args.self.now.cells c.args.self.now.variables c.args.self.now.count c.args.self.now.gives c.args.self.now.back l c.args.self.now.ok.0 c.args.self.now.ok.1 c.args.slot _ c.if-slot-self.false (to_z-of_z w16 _ f)
+    let e = looked_up c.slots.result.now c.args.slot c.get.result c.get.ensures.lookup.0 (c.get.ensures.lookup.4 (omega arith) (pos 0)) in
+    c.copied.ensures ∙ (e ∙ ap (λ (vars : List ℤ). variable_at vars c.args.slot) c.slots.ensures)

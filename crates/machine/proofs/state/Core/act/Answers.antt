@@ -7,5 +7,5 @@ use Rattle.machine.proofs.state.Core.act.Goals as goal
 pub returns : goal.returns
 unfolding view
 returns c =
-    let l : c.args.self.now.depth.n ≤ length c.args.self.now.activations = omega arith in
-    c.conclude.ensures ∙ top-done c.args.self.now.activations c.args.self.now.depth.n c.requires l c.args.self.now.at c.args.node c.args.next (act_by c.args.instruction) c.index-self-top.result c.act-effect.new.self c.act-effect.result c.act-effect.ensures
+    let l : c.args.self.now.depth ≤ length c.args.self.now.activations = omega arith in
+    c.conclude.ensures ∙ top-done _ _ c.requires l _ _ _ (act_by c.args.instruction) _ c.act-effect.new.self c.act-effect.result c.act-effect.ensures
