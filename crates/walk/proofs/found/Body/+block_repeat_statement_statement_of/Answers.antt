@@ -16,9 +16,6 @@ block-loop-i-preserved t c = search (rules, items_step)
 pub block-returns : goal.block-returns
 block-returns t c = search (rules, block_after)
 
-pub statement_of-returns-in-Write-clause-is : goal.statement_of-returns-in-Write-clause-is
-statement_of-returns-in-Write-clause-is t c = search (rules, c.format_kind.ensures)
-
 pub statement-returns-in_err-shape-clause-is : goal.statement-returns-in_err-shape-clause-is
 statement-returns-in_err-shape-clause-is t c =
     let e = stmt_after (seen c.args.self.now) (env c.args.self.now) c.args.left (names c.args.loops.now) c.args.at (Err c.in_err-shape.field-0.0) c.in_err-shape.ensures.is in
