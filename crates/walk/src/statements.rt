@@ -126,6 +126,7 @@ impl Body<'_> {
 
     // The block at `at` among the open loops: its height and words, and the next node's place.
     #[cycle(block_repeat_statement_statement_of)]
+    #[tactic(auto, using(crate::proofs::Steps::block_after, crate::proofs::Steps::items_step))]
     pub(crate) fn block(
         &self,
         at: usize,

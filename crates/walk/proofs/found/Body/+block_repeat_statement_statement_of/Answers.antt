@@ -4,18 +4,6 @@ use Rattle.walk.specs.Reads.{seen, env}
 use Rattle.walk.proofs.Steps.{stmt_after, block_after, items_step}
 use Rattle.walk.proofs.found.Body.+block_repeat_statement_statement_of.Goals as goal
 
-pub block-returns-in_err-count : goal.block-returns-in_err-count
-block-returns-in_err-count t c = search (rules, block_after)
-
-pub block-returns-in_err-statement : goal.block-returns-in_err-statement
-block-returns-in_err-statement t c = search (rules, block_after, items_step)
-
-pub block-loop-i-preserved : goal.block-loop-i-preserved
-block-loop-i-preserved t c = search (rules, items_step)
-
-pub block-returns : goal.block-returns
-block-returns t c = search (rules, block_after)
-
 pub statement-returns-in_err-shape-clause-is : goal.statement-returns-in_err-shape-clause-is
 statement-returns-in_err-shape-clause-is t c =
     let e = stmt_after (seen c.args.self.now) (env c.args.self.now) c.args.left (names c.args.loops.now) c.args.at (Err c.in_err-shape.field-0.0) c.in_err-shape.ensures.is in
