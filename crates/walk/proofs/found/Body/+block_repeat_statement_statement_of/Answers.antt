@@ -1,7 +1,7 @@
 use Rattle.std.proofs.Common.{Ok, Err, sym, ◌∙◌, rules}
 use Rattle.walk.specs.Names.{names}
 use Rattle.walk.specs.Reads.{seen, env}
-use Rattle.walk.proofs.Steps.{stmt_after, block_after, items_step}
+use Rattle.walk.proofs.Steps.{stmt_after}
 use Rattle.walk.proofs.found.Body.+block_repeat_statement_statement_of.Goals as goal
 
 pub statement-returns-in_err-shape-clause-is : goal.statement-returns-in_err-shape-clause-is
