@@ -1,10 +1,8 @@
 // Both sides of the limits on nesting, open loops and cells.
-use crate::tables::{Nodes, kind, outcome, table};
+use crate::tables::{MAIN, Nodes, kind, outcome, table};
 use checker::Program;
 use std::alloc::{AllocError, Global};
 use std::test::*;
-
-const MAIN: [u8; 6] = [0, 0, 0, 0, 0, 0];
 
 // A write of a constant under so many plus signs.
 fn signs(heap: Global, count: u16) -> Result<Vec<u8>, AllocError> {

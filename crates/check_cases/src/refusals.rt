@@ -1,13 +1,11 @@
 // One table at least for each refusal.
-use crate::tables::{outcome, table};
+use crate::tables::{MAIN, outcome, table};
 use std::process::Abort;
 use std::test::*;
 
 // Function records, node records, and the number and place of the refusal.
 #[derive(Drop)]
 struct Row<'a>(&'a [u8], &'a [u8], u8, usize);
-
-const MAIN: [u8; 6] = [0, 0, 0, 0, 0, 0];
 
 // main with an int variable and a byte variable
 const TWO: [u8; 6] = [0, 0x20, 0x40, 0, 0, 0];

@@ -2,7 +2,10 @@
 use checker::check_table;
 use std::alloc::{AllocError, Global};
 
-// The refusal's number and place, or 0 and 0 for a table that passes.
+// The record of a main without variables.
+pub const MAIN: [u8; 6] = [0, 0, 0, 0, 0, 0];
+
+// The refusal's number and place, or 0 and 0 for a table that passes: the tests' values are written so.
 pub fn outcome(bytes: &[u8]) -> (u8, usize) {
     match check_table(bytes) {
         Ok(_) => (0, 0),

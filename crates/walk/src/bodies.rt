@@ -13,9 +13,7 @@ use table::{Table, TableFault};
 fn context(t: &Table, f: usize) -> Result<Context, CheckFault>
     ensures { result ≡ context_at (view t.now) f }
 {
-    let Some(own) = t.function(f) else {
-        return Err(CheckFault::Table(TableFault::Record(f)));
-    };
+    let own = t.function(f).ok_or(TableFault::Record(f))?;
     let main = if f == 0 { None } else { t.function(0) };
     Ok(Context { own, main })
 }
@@ -49,6 +47,7 @@ fn function_body(t: &Table, f: usize, words: usize, at: usize) -> Result<(usize,
 }
 
 // All bodies: the words of the whole translation, and the place behind the last node.
+#[tactic(auto, using(crate::proofs::Steps::bodies_step))]
 pub(crate) fn bodies(t: &Table) -> Result<(usize, usize), CheckFault>
     ensures { result ≡ bodies_from (view t.now) t.now.functions 0 t.now.functions 0 }
 {

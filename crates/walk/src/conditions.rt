@@ -11,6 +11,7 @@ use table::{Condition, Kind};
 impl Body<'_> {
     // The condition at `at`: its height and words, and the next node's place.
     #[cycle(condition_condition_of)]
+    #[tactic(auto, using(crate::proofs::Steps::cond_after))]
     pub(crate) fn condition(&self, at: usize, left: u8) -> Result<(Size, usize), CheckFault>
         ensures is { result ≡ test_walk self.now left at }
         ensures bound { SizeSpans self.now at result }

@@ -93,10 +93,10 @@ impl Body<'_> {
             Statement::Loop(name) => self.repeat(name, at, left, loops),
             Statement::Break(name) | Statement::Continue(name) => leave_loop(loops, name, at),
             Statement::Exit => exit_from(self.context.own.result, at),
-            Statement::Return => match self.context.own.result {
-                Some(kind) => self.one_value(kind, at, left),
-                None => Err(CheckFault::Exit(at)),
-            },
+            Statement::Return => {
+                let kind = self.context.own.result.ok_or(CheckFault::Exit(at))?;
+                self.one_value(kind, at, left)
+            }
             Statement::Write(format) => self.one_value(format_kind(format), at, left),
         }
     }
@@ -126,6 +126,7 @@ impl Body<'_> {
 
     // The block at `at` among the open loops: its height and words, and the next node's place.
     #[cycle(block_repeat_statement_statement_of)]
+    #[tactic(auto, using(crate::proofs::Steps::block_after, crate::proofs::Steps::items_step))]
     pub(crate) fn block(
         &self,
         at: usize,

@@ -30,6 +30,7 @@ impl CheckFault {
 }
 
 // Whether a table passes, and else the first rule broken.
+#[tactic(auto, unfolding(crate::specs::Bodies::checked))]
 pub fn walk_table(bytes: &[u8]) -> Result<Passed, CheckFault>
     ensures { result ≡ checked bytes.now }
 {

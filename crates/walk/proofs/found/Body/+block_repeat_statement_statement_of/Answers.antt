@@ -1,23 +1,8 @@
 use Rattle.std.proofs.Common.{Ok, Err, sym, ◌∙◌, rules}
 use Rattle.walk.specs.Names.{names}
 use Rattle.walk.specs.Reads.{seen, env}
-use Rattle.walk.proofs.Steps.{stmt_after, block_after, items_step}
+use Rattle.walk.proofs.Steps.{stmt_after}
 use Rattle.walk.proofs.found.Body.+block_repeat_statement_statement_of.Goals as goal
-
-pub block-returns-in_err-count : goal.block-returns-in_err-count
-block-returns-in_err-count t c = search (rules, block_after)
-
-pub block-returns-in_err-statement : goal.block-returns-in_err-statement
-block-returns-in_err-statement t c = search (rules, block_after, items_step)
-
-pub block-loop-i-preserved : goal.block-loop-i-preserved
-block-loop-i-preserved t c = search (rules, items_step)
-
-pub block-returns : goal.block-returns
-block-returns t c = search (rules, block_after)
-
-pub statement_of-returns-in-Write-clause-is : goal.statement_of-returns-in-Write-clause-is
-statement_of-returns-in-Write-clause-is t c = search (rules, c.format_kind.ensures)
 
 pub statement-returns-in_err-shape-clause-is : goal.statement-returns-in_err-shape-clause-is
 statement-returns-in_err-shape-clause-is t c =
