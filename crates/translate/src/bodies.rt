@@ -15,13 +15,17 @@ use code::{Entry, Instruction};
 use table::{Function, Table};
 use walk::{Body, Context};
 
-// What the nodes of function f may refer to.
-fn context(table: &Table, f: usize) -> Context
-    ensures { result ≡ context_in (view table.now) f }
+// Function f's body, with what its nodes may refer to.
+fn body<'a>(table: &'a Table<'a>, f: usize) -> Body<'a>
+    ensures table { result.table.now ≡ table.now }
+    ensures context { result.context ≡ context_in (view table.now) f }
 {
     let own = table.function(f).unwrap_or_default();
     let main = if f == 0 { None } else { table.function(0) };
-    Context { own, main }
+    Body {
+        table,
+        context: Context { own, main },
+    }
 }
 
 // The levels of blocks that a body may have: told by a clause, since the number itself would have them all computed.
@@ -73,10 +77,7 @@ fn entries(table: &Table, out: &mut Writer)
     let mut address = table.functions;
     let mut at = 0;
     for f in 0..table.functions {
-        let body = Body {
-            table: &*table,
-            context: context(table, f),
-        };
+        let body = body(&*table, f);
         let (words, next) = body_size(&body, at);
         out.put_entry(entry_of(&body.context.own, address));
         address += words + 1;
@@ -91,11 +92,7 @@ fn bodies(table: &Table, out: &mut Writer)
 {
     let mut at = 0;
     for f in 0..table.functions {
-        let body = Body {
-            table: &*table,
-            context: context(table, f),
-        };
-        at = whole_body(&body, at, out);
+        at = whole_body(&body(&*table, f), at, out);
     }
 }
 

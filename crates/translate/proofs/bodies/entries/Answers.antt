@@ -13,4 +13,4 @@ body_size-words-requires c =
 pub loop-f-preserved : goal.loop-f-preserved
 loop-f-preserved c =
     let e = c.body_size-words.ensures in
-    rw (e.words, c.context.ensures) (entries-again (view c.args.table.now) c.args.table.now.functions c.loop-f.f c.loop-f.at _ (program_in c.args.table.now) _ _ _ c.loop-f-test.true (rw c.context.ensures at e.next) c.loop-f.address c.loop-f.invariant (rw (c.entry_of.ensures, c.context.ensures) at c.put_entry.ensures))
+    rw (e.words, c.body-body.ensures.table, c.body-body.ensures.context) (entries-again (view c.args.table.now) c.args.table.now.functions c.loop-f.f c.loop-f.at _ (program_in c.args.table.now) _ _ _ c.loop-f-test.true (rw (c.body-body.ensures.table, c.body-body.ensures.context) at e.next) c.loop-f.address c.loop-f.invariant (rw (c.entry_of.ensures, c.body-body.ensures.context) at c.put_entry.ensures))
