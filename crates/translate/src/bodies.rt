@@ -68,10 +68,9 @@ fn entry_of(own: &Function, address: usize) -> Entry
     }
 }
 
-// Writes the entry words of a table's functions, as the code's first words; the bodies are to stand behind them.
+// Writes the entry words of a table's functions, for the code that begins with them and has the bodies behind them.
 fn entries(table: &Table, out: &mut Writer)
-    requires start { out.old.here ≡ 0 }
-    requires room { HasRoom out.old (table.now.functions + words_bodies (program_in table.now)) }
+    requires { HasRoom out.old (table.now.functions + words_bodies (program_in table.now)) }
     ensures { Writes out.old out.new table.now.functions (code_entries (program_in table.now) table.now.functions) }
 {
     let mut address = table.functions;

@@ -1,14 +1,7 @@
-use Rattle.std.proofs.Common.{rules}
 use Rattle.table.specs.View.{view}
 use Rattle.translate.specs.Functions.{program_in}
-use Rattle.translate.proofs.Functions.{body_among, entries-again}
+use Rattle.translate.proofs.Functions.{entries-again}
 use Rattle.translate.proofs.bodies.entries.Goals as goal
-
-pub body_size-words-requires : goal.body_size-words-requires
-body_size-words-requires c =
-    let b = body_among (view c.args.table.now) c.args.table.now.functions c.loop-f.f c.loop-f.at c.loop-f-test.true in
-    let m = c.loop-f.invariant.behind in
-    search rules
 
 pub loop-f-preserved : goal.loop-f-preserved
 loop-f-preserved c =
