@@ -1,5 +1,5 @@
 -- The functions of a table, one by one.
-use Rattle.std.proofs.Common.{◌≡◌, ℕ, ◌+◌, ◌-◌, ◌<◌, ◌≤◌, [], ◌∷◌, ◌++◌, subst, ap, arith}
+use Rattle.std.proofs.Common.{◌≡◌, ℕ, ◌+◌, ◌-◌, ◌<◌, [], ◌∷◌, ◌++◌, subst, ap, arith}
 use Rattle.table.specs.View.{View}
 use Rattle.language.specs.Tree.{Block, Program}
 use Rattle.language.specs.Measures.{words_b, words_bodies}
@@ -11,10 +11,6 @@ use Rattle.translate.specs.Written.{Writes}
 use Rattle.translate.specs.declared.write.Writer.{Writer}
 use Rattle.translate.proofs.Programs.{functions-next}
 use Rattle.translate.proofs.Writes.{Remains, remains_more}
-
--- a body is among those that are left
-pub body_among : (v : View) (n f i : ℕ) → f < n → words_b (body_at v (context_in v f) i).0 + 1 ≤ words_bodies (functions_from v (n - f) f i)
-body_among v n f i l = let e = ap words_bodies (functions-next v n f i l) in omega arith
 
 -- of the bodies of the program `all` those of `rest` are still to be written
 abbrev pub BodiesLeft : Writer → Writer → Program → Program → Type 0

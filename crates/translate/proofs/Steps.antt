@@ -13,7 +13,6 @@ use Rattle.table.specs.declared.shape.Expression.{Expression}
 use Rattle.table.specs.declared.shape.Condition.{Condition}
 use Rattle.table.specs.declared.shape.Statement.{Statement}
 use Rattle.language.specs.Tree.{Expr, Args, Stmt, more, next}
-use Rattle.language.specs.Measures.{words_s, words_ss}
 use Rattle.language.specs.Rules.{Env, parameter_kinds}
 use Rattle.language.specs.Reader.{value_of, test_of, act_of, body_of, read_e_at, read_e, read_c_at, read_c, read_ss, read_s_at, read_s, read_b_at, read_b}
 use Rattle.walk.specs.Bodies.{signature_of}
@@ -73,7 +72,3 @@ pub stmts_step : (one : ℕ → Stmt × ℕ) (n j : ℕ) → 0 < n →
     read_ss one n j ≡ (next (one j).0 (read_ss one (n - 1) (one j).1).0, (read_ss one (n - 1) (one j).1).1)
 stmts_step one zero j h = absurd (omega arith)
 stmts_step one (suc n) j h = let q : suc n - 1 ≡ n = omega arith in rw q
-
-pub stmts_words : (one : ℕ → Stmt × ℕ) (n j : ℕ) → 0 < n → words_s (one j).0 ≤ words_ss (read_ss one n j).0
-stmts_words one zero j h = absurd (omega arith)
-stmts_words one (suc n) j h = omega arith

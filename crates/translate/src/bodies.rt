@@ -15,13 +15,17 @@ use code::{Entry, Instruction};
 use table::{Function, Table};
 use walk::{Body, Context};
 
-// What the nodes of function f may refer to.
-fn context(table: &Table, f: usize) -> Context
-    ensures { result ≡ context_in (view table.now) f }
+// Function f's body, with what its nodes may refer to.
+fn body<'a>(table: &'a Table<'a>, f: usize) -> Body<'a>
+    ensures table { result.table.now ≡ table.now }
+    ensures context { result.context ≡ context_in (view table.now) f }
 {
     let own = table.function(f).unwrap_or_default();
     let main = if f == 0 { None } else { table.function(0) };
-    Context { own, main }
+    Body {
+        table,
+        context: Context { own, main },
+    }
 }
 
 // The levels of blocks that a body may have: told by a clause, since the number itself would have them all computed.
@@ -64,19 +68,15 @@ fn entry_of(own: &Function, address: usize) -> Entry
     }
 }
 
-// Writes the entry words of a table's functions, as the code's first words; the bodies are to stand behind them.
+// Writes the entry words of a table's functions, for the code that begins with them and has the bodies behind them.
 fn entries(table: &Table, out: &mut Writer)
-    requires start { out.old.here ≡ 0 }
-    requires room { HasRoom out.old (table.now.functions + words_bodies (program_in table.now)) }
+    requires { HasRoom out.old (table.now.functions + words_bodies (program_in table.now)) }
     ensures { Writes out.old out.new table.now.functions (code_entries (program_in table.now) table.now.functions) }
 {
     let mut address = table.functions;
     let mut at = 0;
     for f in 0..table.functions {
-        let body = Body {
-            table: &*table,
-            context: context(table, f),
-        };
+        let body = body(&*table, f);
         let (words, next) = body_size(&body, at);
         out.put_entry(entry_of(&body.context.own, address));
         address += words + 1;
@@ -91,11 +91,7 @@ fn bodies(table: &Table, out: &mut Writer)
 {
     let mut at = 0;
     for f in 0..table.functions {
-        let body = Body {
-            table: &*table,
-            context: context(table, f),
-        };
-        at = whole_body(&body, at, out);
+        at = whole_body(&body(&*table, f), at, out);
     }
 }
 

@@ -5,45 +5,48 @@ use translate::translate;
 
 // A table, and how many words its program has.
 #[derive(Drop)]
-struct Row<'a>(&'a [u8], usize);
+struct Row<'a> {
+    table: &'a [u8],
+    words: usize,
+}
 
 // The words of a program, with memory of at most twenty words; else the number of the refusal and the words needed.
-fn words_in(program: &Program, memory: usize) -> (u8, usize) {
+fn words_in(program: &Program, memory: usize) -> Result<usize, (u8, usize)> {
     let mut code = [7; 20];
     let length = memory.min(20);
-    match translate(program, &mut code[0..length]) {
-        Ok(words) => (0, words),
-        Err(fault) => fault.told(),
-    }
+    translate(program, &mut code[..length]).map_err(|fault| fault.told())
 }
 
 #[test]
 fn small_programs(rt: HostRuntime) {
     let rows = [
-        Row(
-            &[0x10, 0x40, 2, 0, 0, 0, 0, 0, 0, 0xA4, 0, 1, 0x80, 0, 0],
-            2,
-        ),
-        Row(
-            &[
+        Row {
+            table: &[0x10, 0x40, 2, 0, 0, 0, 0, 0, 0, 0xA4, 0, 1, 0x80, 0, 0],
+            words: 2,
+        },
+        Row {
+            table: &[
                 0x10, 0x40, 4, 0, 0, 0, 0, 0, 0, 0xA4, 0, 1, 0xA8, 0, 0, 0x10, 0, 0, 4, 0, 7,
             ],
-            5,
-        ),
-        Row(
-            &[
+            words: 5,
+        },
+        Row {
+            table: &[
                 0x10, 0x40, 14, 0, 0, 0, 0, 0, 0, 0xA4, 0, 1, 0x8C, 0, 0, 0x70, 0, 0, 0x50, 0, 0,
                 4, 0, 0, 4, 0, 0, 0x50, 0, 0, 0x24, 0, 0, 4, 0, 1, 4, 0, 0, 4, 0, 1, 0xA4, 0, 1,
                 0xA8, 0, 0, 4, 0, 5,
             ],
-            12,
-        ),
+            words: 12,
+        },
     ];
-    for row in &rows {
+    for Row { table, words } in &rows {
         let mut program = Program::new();
-        assert!(rt; program.replace(row.0).is_ok());
-        assert_eq!(rt; words_in(&program, row.1), (0, row.1));
-        assert_eq!(rt; words_in(&program, row.1.saturating_sub(1)), (30, row.1));
+        assert!(rt; program.replace(table).is_ok());
+        assert_eq!(rt; words_in(&program, *words), Ok(*words));
+        assert_eq!(rt;
+            words_in(&program, words.saturating_sub(1)),
+            Err((30, *words))
+        );
     }
 }
 
@@ -70,11 +73,7 @@ fn largest(rt: HostRuntime) -> Result<(), Fail> {
     let mut program = Program::new();
     assert!(rt; program.replace(bytes.as_slice()).is_ok());
     let mut code = [0; 8224];
-    match translate(&program, &mut code) {
-        Ok(words) => {
-            assert_eq!(rt; words, 8193);
-            Ok(())
-        },
-        Err(_) => Err(Fail::new("too short")),
-    }
+    let words = translate(&program, &mut code).map_err(|_| Fail::new("too short"))?;
+    assert_eq!(rt; words, 8193);
+    Ok(())
 }
