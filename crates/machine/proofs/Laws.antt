@@ -1,12 +1,11 @@
 -- The laws of a step.
-use Rattle.std.proofs.Common.{◌≡◌, ℕ, zero, suc, ◌-◌, ◌≤◌, Bool, true, false, cond, leb, List, [], ◌∷◌, ◌++◌, length, take, drop, ℤ, Some, Ok, Err, Result, sym, refl, ap, ◌∙◌, subst, inl, inr, append-nil, arith, take-append-drop}
+use Rattle.std.proofs.Common.{◌≡◌, ℕ, zero, suc, ◌-◌, ◌≤◌, Bool, true, false, cond, leb, List, [], ◌∷◌, ◌++◌, length, take, drop, ℤ, Some, sym, refl, ap, ◌∙◌, subst, inl, inr, append-nil, arith, take-append-drop}
 use Rattle.std.proofs.lemmas.Bool.Decides.{nat_tests}
 use Rattle.number.specs.declared.text.Reading.{Reading}
 use Rattle.number.specs.declared.text.Reading.TheVariants.{Wait, Refused, Took}
 use Rattle.machine.specs.declared.plan.Cause.TheVariants.{RefusedText, NoRoom}
 use Rattle.machine.specs.declared.plan.Plan.{Plan}
-use Rattle.machine.specs.declared.plan.Plan.TheVariants.{Went, Over, Read, Send}
-use Rattle.machine.specs.declared.plan.Fault.{Fault}
+use Rattle.machine.specs.declared.plan.Plan.TheVariants.{Went, Over, Fault, Read, Send}
 use Rattle.machine.specs.declared.plan.Latch.{Latch}
 use Rattle.machine.specs.declared.plan.Latch.TheVariants.{Open, Ended as Closed, Failed as Broken}
 use Rattle.machine.specs.declared.plan.Outcome.{Outcome}
@@ -14,7 +13,7 @@ use Rattle.machine.specs.declared.plan.Outcome.TheVariants.{Waits}
 use Rattle.machine.specs.View.{State}
 use Rattle.machine.specs.Values.{finds, text_of}
 use Rattle.machine.specs.Acts.{pushed, dropped}
-use Rattle.machine.specs.States.{faulty, settled, top_free, top_last, advanced}
+use Rattle.machine.specs.States.{settled, top_free, top_last, advanced}
 use Rattle.machine.specs.Steps.{World, world, latch_of, outcome_of, finished, received, performed, stepping, stepped, fed, Moves, latch_for, StepLaws, Held}
 use Rattle.machine.proofs.Found.{found_inside, finds_more}
 use Rattle.machine.proofs.Steps.{Planned, ready_advanced, push_goes, drop-goes}
@@ -38,22 +37,22 @@ still w x e f g =
       rests = λ _. (refl, refl);
     }
 
-latch_of_lem : (d : Result Plan Fault) → latch_of d ≡ latch_for (outcome_of d)
-latch_of_lem (Ok Went) = refl
-latch_of_lem (Ok Over) = refl
-latch_of_lem (Err x) = refl
-latch_of_lem (Ok (Read q at)) = refl
-latch_of_lem (Ok (Send q v at)) = refl
+latch_of_lem : (d : Plan) → latch_of d ≡ latch_for (outcome_of d)
+latch_of_lem Went = refl
+latch_of_lem Over = refl
+latch_of_lem (Fault c n) = refl
+latch_of_lem (Read q node next) = refl
+latch_of_lem (Send q v node next) = refl
 
 other : {B : Type 0} (o : Outcome) → (o ≡ Waits → ⊥) → o ≡ Waits → B
 other o f e = absurd (f e)
 
-not_waits : (d : Result Plan Fault) → outcome_of d ≡ Waits → ⊥
-not_waits (Ok Went) e = let z : ◌≡◌ {A = ℕ} 0 1 = cc in omega arith
-not_waits (Ok Over) e = let z : ◌≡◌ {A = ℕ} 0 1 = cc in omega arith
-not_waits (Err x) e = let z : ◌≡◌ {A = ℕ} 0 1 = cc in omega arith
-not_waits (Ok (Read q at)) e = let z : ◌≡◌ {A = ℕ} 0 1 = cc in omega arith
-not_waits (Ok (Send q v at)) e = let z : ◌≡◌ {A = ℕ} 0 1 = cc in omega arith
+not_waits : (d : Plan) → outcome_of d ≡ Waits → ⊥
+not_waits Went e = let z : ◌≡◌ {A = ℕ} 0 1 = cc in omega arith
+not_waits Over e = let z : ◌≡◌ {A = ℕ} 0 1 = cc in omega arith
+not_waits (Fault c n) e = let z : ◌≡◌ {A = ℕ} 0 1 = cc in omega arith
+not_waits (Read q node next) e = let z : ◌≡◌ {A = ℕ} 0 1 = cc in omega arith
+not_waits (Send q v node next) e = let z : ◌≡◌ {A = ℕ} 0 1 = cc in omega arith
 
 drop_more : (n : ℕ) (ws bytes : List ℕ) → n ≤ length ws → drop n (ws ++ bytes) ≡ drop n ws ++ bytes
 drop_more zero ws bytes h = refl
@@ -61,7 +60,7 @@ drop_more (suc n) [] bytes h = let z : ⊥ = omega arith in absurd z
 drop_more (suc n) (x ∷ ws) bytes h = drop_more n ws bytes (omega arith)
 
 module _ (w : World) where
-  plain : (s : State) (d : Result Plan Fault) → Laws w (finished (s, d) w.waiting w.sent w.room) (λ bytes. finished (s, d) (w.waiting ++ bytes) w.sent w.room)
+  plain : (s : State) (d : Plan) → Laws w (finished (s, d) w.waiting w.sent w.room) (λ bytes. finished (s, d) (w.waiting ++ bytes) w.sent w.room)
   plain s d = record { waits = other _ (not_waits d); more = λ bytes h. refl; moves = still w _ refl refl refl; latch = latch_of_lem d }
 
   module _ (s : State) (node next : ℕ) where
@@ -77,7 +76,7 @@ module _ (w : World) where
         }
     reads o h Refused R f g =
         record {
-          waits = other _ (not_waits (faulty RefusedText node));
+          waits = other _ (not_waits (Fault RefusedText node));
           more = λ bytes k. ap (λ (z : Reading). received w.machine s node next z (w.waiting ++ bytes) w.sent w.room) (f bytes (λ e. let z : ◌≡◌ {A = ℕ} 0 1 = cc in omega arith));
           moves = still w _ refl refl refl;
           latch = refl;
@@ -104,8 +103,8 @@ module _ (w : World) where
 
     -- a write
     sends : (v : ℤ) (text : List ℕ) → top_last s.acts ≡ Some v → (b : Bool) → b ≡ leb (length text) w.room
-        → Laws w (cond b (finished (settled dropped node next s) w.waiting (w.sent ++ text) (w.room - length text)) (finished (s, faulty NoRoom node) w.waiting w.sent w.room))
-        (λ bytes. cond b (finished (settled dropped node next s) (w.waiting ++ bytes) (w.sent ++ text) (w.room - length text)) (finished (s, faulty NoRoom node) (w.waiting ++ bytes) w.sent w.room))
+        → Laws w (cond b (finished (settled dropped node next s) w.waiting (w.sent ++ text) (w.room - length text)) (finished (s, Fault NoRoom node) w.waiting w.sent w.room))
+        (λ bytes. cond b (finished (settled dropped node next s) (w.waiting ++ bytes) (w.sent ++ text) (w.room - length text)) (finished (s, Fault NoRoom node) (w.waiting ++ bytes) w.sent w.room))
     sends v text h true e =
         let p = settled dropped node next s in
         let l : length text ≤ w.room = grind (arith, nat_tests) in
@@ -124,22 +123,22 @@ module _ (w : World) where
               };
           latch = latch_of_lem p.1;
         }
-    sends v text h false e = plain s (faulty NoRoom node)
+    sends v text h false e = plain s (Fault NoRoom node)
 
-  performs : w.latch ≡ Open → (s : State) (d : Result Plan Fault) → Planned s s d → Laws w (performed w.machine s d w.waiting w.sent w.room) (λ bytes. performed w.machine s d (w.waiting ++ bytes) w.sent w.room)
-  performs o s (Ok Went) h = plain s (Ok Went)
-  performs o s (Ok Over) h = plain s (Ok Over)
-  performs o s (Err x) h = plain s (Err x)
-  performs o s (Ok (Read q at)) h =
-      reads s at.node at.next o h.1 (finds q w.waiting) (λ bytes. finds q (w.waiting ++ bytes)) (λ bytes k. finds_more q w.waiting bytes k) (λ v n e. found_inside q w.waiting v n e)
-  performs o s (Ok (Send q v at)) h = sends s at.node at.next v (text_of q v) h.1 (leb (length (text_of q v)) w.room) refl
+  performs : w.latch ≡ Open → (s : State) (d : Plan) → Planned s s d → Laws w (performed w.machine s d w.waiting w.sent w.room) (λ bytes. performed w.machine s d (w.waiting ++ bytes) w.sent w.room)
+  performs o s Went h = plain s Went
+  performs o s Over h = plain s Over
+  performs o s (Fault c n) h = plain s (Fault c n)
+  performs o s (Read q node next) h =
+      reads s node next o h.1 (finds q w.waiting) (λ bytes. finds q (w.waiting ++ bytes)) (λ bytes k. finds_more q w.waiting bytes k) (λ v n e. found_inside q w.waiting v n e)
+  performs o s (Send q v node next) h = sends s node next v (text_of q v) h.1 (leb (length (text_of q v)) w.room) refl
 
   goes : (code : List ℕ) (l : Latch) → w.latch ≡ l → Laws w (stepping l code w) (λ bytes. stepping l code (fed bytes w))
   goes code Open o = performs o (advanced code w.machine).0 (advanced code w.machine).1 (ready_advanced code w.machine)
   goes code Closed o = record { waits = λ e. let z : ◌≡◌ {A = ℕ} 0 1 = cc in let y : ⊥ = omega arith in absurd y; more = λ bytes k. refl; moves = still w _ refl refl refl; latch = o }
   goes code (Broken c n) o = record { waits = λ e. let z : ◌≡◌ {A = ℕ} 0 1 = cc in let y : ⊥ = omega arith in absurd y; more = λ bytes k. refl; moves = still w _ refl refl refl; latch = o }
 
-pub step-laws : (code : List ℕ) (w : World) (x : World × Outcome) → x ≡ stepped code w → StepLaws code w x
+step-laws : (code : List ℕ) (w : World) (x : World × Outcome) → x ≡ stepped code w → StepLaws code w x
 unfolding stepped
 step-laws code w x e =
     let a = goes w code w.latch refl in

@@ -15,10 +15,7 @@ use Rattle.machine.specs.declared.plan.Cause.TheVariants.{BadCode, NoReturn, NoR
 use Rattle.machine.specs.declared.plan.Flow.{Flow}
 use Rattle.machine.specs.declared.plan.Flow.TheVariants.{Next}
 use Rattle.machine.specs.declared.plan.Plan.{Plan}
-use Rattle.machine.specs.declared.plan.Plan.TheVariants.{Went, Over, Read, Send}
-use Rattle.machine.specs.declared.plan.Fault.{Fault}
-use Rattle.machine.specs.declared.plan.Site.{Site}
-use Rattle.std.specs.Bool.{then_some}
+use Rattle.machine.specs.declared.plan.Plan.TheVariants.{Went, Over, Fault, Read, Send}
 use Rattle.machine.specs.declared.plan.Latch.{Latch}
 use Rattle.machine.specs.declared.plan.Latch.TheVariants.{Open, Ended as Closed, Failed as Broken}
 use Rattle.machine.specs.declared.plan.Outcome.{Outcome}
@@ -26,22 +23,22 @@ use Rattle.machine.specs.declared.plan.Outcome.TheVariants.{Ended, Failed}
 use Rattle.machine.specs.declared.state.Activation.{Activation}
 use Rattle.machine.specs.View.{Act, State, state, tops}
 use Rattle.machine.specs.Acts.{with_ops, with_one, size, first, pushed, dropped, act_by}
-use Rattle.machine.specs.States.{faulty, concluded, on_top, settled, main_variables, variable_at, loading_main, from_main, storing_main, to_main, entry_at, calling, called_by, called, leaving, left, handing, returning, returned, top_free, to_read, top_last, to_send, run, run_by, fetched, main_entry, opened, begun, advancing, advanced, undone}
+use Rattle.machine.specs.States.{concluded, on_top, settled, main_variables, variable_at, loading_main, from_main, storing_main, to_main, entry_at, calling, called_by, called, leaving, left, handing, returning, returned, top_free, to_read, top_last, to_send, run, run_by, fetched, main_entry, opened, begun, advancing, advanced}
 use Rattle.machine.specs.Steps.{World, world, latch_of, outcome_of, finished, delivered, performed, stepping, stepped, Held}
 use Rattle.machine.proofs.Tables.{none_open, later_step}
 
 -- What a plan that needs the line leaves: the machine as it was, with a cell free or with the operand.
-abbrev pub Planned : State → State → Result Plan Fault → Type 0
-Planned s s' (Ok Went) = Unit {0}
-Planned s s' (Ok Over) = Unit {0}
-Planned s s' (Err f) = Unit {0}
-Planned s s' (Ok (Read q at)) = (s' ≡ s) × (top_free s.acts ≡ true)
-Planned s s' (Ok (Send q v at)) = (s' ≡ s) × (top_last s.acts ≡ Some v)
+abbrev pub Planned : State → State → Plan → Type 0
+Planned s s' Went = Unit {0}
+Planned s s' Over = Unit {0}
+Planned s s' (Fault c n) = Unit {0}
+Planned s s' (Read q node next) = (s' ≡ s) × (top_free s.acts ≡ true)
+Planned s s' (Send q v node next) = (s' ≡ s) × (top_last s.acts ≡ Some v)
 
-abbrev Plans : State → State × Result Plan Fault → Type 0
+abbrev Plans : State → State × Plan → Type 0
 Plans s p = Planned s p.0 p.1
 
-plans_cond : (s : State) (b : Bool) (x y : State × Result Plan Fault) → Plans s x → Plans s y → Plans s (cond b x y)
+plans_cond : (s : State) (b : Bool) (x y : State × Plan) → Plans s x → Plans s y → Plans s (cond b x y)
 plans_cond s true x y p q = p
 plans_cond s false x y p q = q
 
@@ -145,19 +142,19 @@ plans_fetched code s = plans_cond s (ltb s.at (length code)) _ _ (by (instructio
     by (Some i) = plans_run i (node_of (get_or code s.at 0)) (s.at + 1) code s
 
 -- a later step that comes to a read leaves the machine as it was
-kept : (s s' : State) (q : Format) (at : Site) (p : State × Result Plan Fault) → (s', Ok (Read q at)) ≡ p → Plans s p → s' ≡ s
-kept s s' q at p e h = let g : Plans s (s', Ok (Read q at)) = subst (λ (z : State × Result Plan Fault). Plans s z) (sym e) h in g.0
+kept : (s s' : State) (q : Format) (node next : ℕ) (p : State × Plan) → (s', Read q node next) ≡ p → Plans s p → s' ≡ s
+kept s s' q node next p e h = let g : Plans s (s', Read q node next) = subst (λ (z : State × Plan). Plans s z) (sym e) h in g.0
 
 -- where a wait is undone
-pub undo_is : (code : List ℕ) (xs : List Activation) (n p : ℕ) (s' : State) (q : Format) (at : Site) → (s', Ok (Read q at)) ≡ advanced code (state (tops xs n) p)
-    → undone (then_some (eqb n 0) p) s' ≡ state (tops xs n) p
-undo_is code xs n p s' q at e = by n e
+pub undone : (code : List ℕ) (xs : List Activation) (n p : ℕ) (s' : State) (q : Format) (node next : ℕ) → (s', Read q node next) ≡ advanced code (state (tops xs n) p)
+    → cond (eqb n 0) (state [] p) s' ≡ state (tops xs n) p
+undone code xs n p s' q node next e = by n e
   where
-    by : (m : ℕ) → (s', Ok (Read q at)) ≡ advanced code (state (tops xs m) p) → undone (then_some (eqb m 0) p) s' ≡ state (tops xs m) p
+    by : (m : ℕ) → (s', Read q node next) ≡ advanced code (state (tops xs m) p) → cond (eqb m 0) (state [] p) s' ≡ state (tops xs m) p
     by zero e = sym (ap (λ (z : List Act). state z p) (none_open xs 0 refl))
     by (suc m) e =
         let z : eqb (suc m) 0 ≡ false = grind (arith, nat_tests) in
-        rw z (kept (state (tops xs (suc m)) p) s' q at (fetched code (state (tops xs (suc m)) p)) (e ∙ sym (later_step code xs (suc m) p (omega arith))) (plans_fetched code (state (tops xs (suc m)) p)))
+        rw z (kept (state (tops xs (suc m)) p) s' q node next (fetched code (state (tops xs (suc m)) p)) (e ∙ sym (later_step code xs (suc m) p (omega arith))) (plans_fetched code (state (tops xs (suc m)) p)))
 
 -- a machine that has stopped
 pub step-ended : (code : List ℕ) (s : State) (l : Latch) (ws ss : List ℕ) (r : ℕ) → l ≡ Closed → (world s l ws ss r, Ended) ≡ stepped code (world s l ws ss r)
@@ -169,14 +166,22 @@ unfolding stepped
 step_failed code s l c n ws ss r e = rw e refl
 
 -- one that has not
-pub step_by : (code : List ℕ) (s : State) (l : Latch) (ws ss : List ℕ) (r : ℕ) (s' : State) (d : Result Plan Fault) (x : World × Outcome) → l ≡ Open → (s', d) ≡ advanced code s → x ≡ performed s s' d ws ss r
+pub step_by : (code : List ℕ) (s : State) (l : Latch) (ws ss : List ℕ) (r : ℕ) (s' : State) (d : Plan) (x : World × Outcome) → l ≡ Open → (s', d) ≡ advanced code s → x ≡ performed s s' d ws ss r
     → x ≡ stepped code (world s l ws ss r)
 unfolding stepped
 step_by code s l ws ss r s' d x o e f =
-    f ∙ (ap (λ (q : State × Result Plan Fault). performed s q.0 q.1 ws ss r) e ∙ sym (ap (λ (z : Latch). stepping z code (world s z ws ss r)) o))
+    f ∙ (ap (λ (q : State × Plan). performed s q.0 q.1 ws ss r) e ∙ sym (ap (λ (z : Latch). stepping z code (world s z ws ss r)) o))
 
-pub finished_is : (s : State) (d : Result Plan Fault) (t : State) (l : Latch) (o : Outcome) (ws ss : List ℕ) (r : ℕ) → t ≡ s → l ≡ latch_of d → o ≡ outcome_of d → (world t l ws ss r, o) ≡ finished (s, d) ws ss r
+pub finished_is : (s : State) (d : Plan) (t : State) (l : Latch) (o : Outcome) (ws ss : List ℕ) (r : ℕ) → t ≡ s → l ≡ latch_of d → o ≡ outcome_of d → (world t l ws ss r, o) ≡ finished (s, d) ws ss r
 finished_is s d t l o ws ss r e f g = rw (e, f, g) refl
+
+pub performed-rest : (s s' : State) (d : Plan) (ws ss : List ℕ) (r : ℕ) → ((q : Format) (node next : ℕ) → d ≡ Read q node next → ⊥) → ((q : Format) (v : ℤ) (node next : ℕ) → d ≡ Send q v node next → ⊥)
+    → finished (s', d) ws ss r ≡ performed s s' d ws ss r
+performed-rest s s' Went ws ss r f g = refl
+performed-rest s s' Over ws ss r f g = refl
+performed-rest s s' (Fault c n) ws ss r f g = refl
+performed-rest s s' (Read q node next) ws ss r f g = absurd (f q node next refl)
+performed-rest s s' (Send q v node next) ws ss r f g = absurd (g q v node next refl)
 
 -- a take of what was found
 pub removed : (t : Result (Unit {0}) LineRefusal) (n : ℕ) (ws : List ℕ) (h : ℕ) (ws' : List ℕ) (h' : ℕ) → Removed t n ws h ws' h' → n ≤ length ws → (ws' ≡ drop n ws) × Held h h' ws ws'
@@ -184,7 +189,7 @@ removed (Ok u) n ws h ws' h' e l =
     let k : length ws' ≡ length ws - n = ap length e.1 ∙ length-drop n ws in (e.1, (e.2, omega (arith, e.3)))
 removed (Err u) n ws h ws' h' e l = let z : ⊥ = omega (arith, e.1) in absurd z
 
-pub taken_is : (s : State) (d : Result Plan Fault) (t : State) (l : Latch) (o : Outcome) (n : ℕ) (ws ws' ss ss' : List ℕ) (r r' : ℕ) → t ≡ s → l ≡ latch_of d → o ≡ outcome_of d → ws' ≡ drop n ws → ss' ≡ ss → r' ≡ r
+pub taken_is : (s : State) (d : Plan) (t : State) (l : Latch) (o : Outcome) (n : ℕ) (ws ws' ss ss' : List ℕ) (r r' : ℕ) → t ≡ s → l ≡ latch_of d → o ≡ outcome_of d → ws' ≡ drop n ws → ss' ≡ ss → r' ≡ r
     → (world t l ws' ss' r', o) ≡ finished (s, d) (drop n ws) ss r
 taken_is s d t l o n ws ws' ss ss' r r' e f g h i j = rw (e, f, g, h, i, j) refl
 
@@ -194,31 +199,31 @@ held h ws ws' = (omega arith, omega arith)
 pub held_at : (h h' : ℕ) (ws ws' : List ℕ) → h' ≡ h → Held h h' ws ws'
 held_at h h' ws ws' e = (omega arith, omega arith)
 
-pub delivered_is : (s' t : State) (d : Result Plan Fault) (l : Latch) (o : Outcome) (node next : ℕ) (text ws ws' ss ss' : List ℕ) (r r' : ℕ) → ss' ≡ ss ++ text → r ≡ r' + length text → ws' ≡ ws → (t, d) ≡ settled dropped node next s' → l ≡ latch_of d → o ≡ outcome_of d
+pub delivered_is : (s' t : State) (d : Plan) (l : Latch) (o : Outcome) (node next : ℕ) (text ws ws' ss ss' : List ℕ) (r r' : ℕ) → ss' ≡ ss ++ text → r ≡ r' + length text → ws' ≡ ws → (t, d) ≡ settled dropped node next s' → l ≡ latch_of d → o ≡ outcome_of d
     → (world t l ws' ss' r', o) ≡ delivered s' node next text ws ss r
 delivered_is s' t d l o node next text ws ws' ss ss' r r' e f g h k m =
     let b : leb (length text) r ≡ true = grind (arith, nat_tests) in
     let q : r' ≡ r - length text = omega arith in
     let x : (world t l ws' ss' r', o) ≡ finished (t, d) ws (ss ++ text) (r - length text) = rw (e, q, g, k, m) refl in
-    x ∙ (ap (λ (z : State × Result Plan Fault). finished z ws (ss ++ text) (r - length text)) h ∙ rw b refl)
+    x ∙ (ap (λ (z : State × Plan). finished z ws (ss ++ text) (r - length text)) h ∙ rw b refl)
 
 pub undelivered_is : (s' t : State) (l : Latch) (o : Outcome) (node next : ℕ) (text ws ws' ss ss' : List ℕ) (r r' : ℕ) → r < length text → ss' ≡ ss → r' ≡ r → ws' ≡ ws → t ≡ s' → l ≡ Broken NoRoom node → o ≡ Failed NoRoom node
     → (world t l ws' ss' r', o) ≡ delivered s' node next text ws ss r
 undelivered_is s' t l o node next text ws ws' ss ss' r r' e f g h i k m =
     let b : leb (length text) r ≡ false = grind (arith, nat_tests) in
-    let x : (world t l ws' ss' r', o) ≡ finished (s', faulty NoRoom node) ws ss r = rw (f, g, h, i, k, m) refl in
+    let x : (world t l ws' ss' r', o) ≡ finished (s', Fault NoRoom node) ws ss r = rw (f, g, h, i, k, m) refl in
     x ∙ rw b refl
 
 -- a first step that comes to a read or a write has main open, with a cell free or with the operand
-abbrev pub Ready : State × Result Plan Fault → Type 0
+abbrev pub Ready : State × Plan → Type 0
 Ready p = Planned p.0 p.0 p.1
 
-ready_from : (s s' : State) (d : Result Plan Fault) → Planned s s' d → Planned s' s' d
-ready_from s s' (Ok Went) h = tt
-ready_from s s' (Ok Over) h = tt
-ready_from s s' (Err x) h = tt
-ready_from s s' (Ok (Read q at)) h = (refl, ap (λ (z : State). top_free z.acts) h.0 ∙ h.1)
-ready_from s s' (Ok (Send q v at)) h = (refl, ap (λ (z : State). top_last z.acts) h.0 ∙ h.1)
+ready_from : (s s' : State) (d : Plan) → Planned s s' d → Planned s' s' d
+ready_from s s' Went h = tt
+ready_from s s' Over h = tt
+ready_from s s' (Fault c n) h = tt
+ready_from s s' (Read q node next) h = (refl, ap (λ (z : State). top_free z.acts) h.0 ∙ h.1)
+ready_from s s' (Send q v node next) h = (refl, ap (λ (z : State). top_last z.acts) h.0 ∙ h.1)
 
 ready_fetched : (code : List ℕ) (s : State) → Ready (fetched code s)
 ready_fetched code s = ready_from s (fetched code s).0 (fetched code s).1 (plans_fetched code s)
@@ -235,22 +240,22 @@ ready_advanced code s = by s.acts
     by [] = on (main_entry code)
     by (a ∷ xs) = ready_fetched code s
 
-pub push_goes : (v : ℤ) (node next : ℕ) (s : State) → top_free s.acts ≡ true → (settled (pushed v) node next s).1 ≡ Ok Went
+pub push_goes : (v : ℤ) (node next : ℕ) (s : State) → top_free s.acts ≡ true → (settled (pushed v) node next s).1 ≡ Went
 unfolding settled pushed
 push_goes v node next s h = by s.acts h
   where
-    by : (xs : List Act) → top_free xs ≡ true → (on_top (pushed v) node next s.at xs).1 ≡ Ok Went
+    by : (xs : List Act) → top_free xs ≡ true → (on_top (pushed v) node next s.at xs).1 ≡ Went
     by [] e = let z : ◌≡◌ {A = ℕ} 0 1 = cc in let y : ⊥ = omega arith in absurd y
     by (a ∷ xs) e = rw e refl
 
-pub drop-goes : (v : ℤ) (node next : ℕ) (s : State) → top_last s.acts ≡ Some v → (settled dropped node next s).1 ≡ Ok Went
+pub drop-goes : (v : ℤ) (node next : ℕ) (s : State) → top_last s.acts ≡ Some v → (settled dropped node next s).1 ≡ Went
 unfolding settled dropped
 drop-goes v node next s h = by s.acts h
   where
-    on : (a : Act) (xs : List Act) (ops : List ℤ) → first ops ≡ Some v → (concluded (with_one a (λ x t. (with_ops a t, Ok Next)) ops).1 node next (state ((with_one a (λ x t. (with_ops a t, Ok Next)) ops).0 ∷ xs) s.at)).1 ≡ Ok Went
+    on : (a : Act) (xs : List Act) (ops : List ℤ) → first ops ≡ Some v → (concluded (with_one a (λ x t. (with_ops a t, Ok Next)) ops).1 node next (state ((with_one a (λ x t. (with_ops a t, Ok Next)) ops).0 ∷ xs) s.at)).1 ≡ Went
     on a xs [] e = let z : ◌≡◌ {A = ℕ} 0 1 = cc in let y : ⊥ = omega arith in absurd y
     on a xs (x ∷ ops) e = refl
 
-    by : (xs : List Act) → top_last xs ≡ Some v → (on_top dropped node next s.at xs).1 ≡ Ok Went
+    by : (xs : List Act) → top_last xs ≡ Some v → (on_top dropped node next s.at xs).1 ≡ Went
     by [] e = let z : ◌≡◌ {A = ℕ} 0 1 = cc in let y : ⊥ = omega arith in absurd y
     by (a ∷ xs) e = on a xs a.ops e

@@ -14,11 +14,10 @@ use Rattle.machine.specs.declared.plan.Cause.TheVariants.{BadCode, TooDeep}
 use Rattle.machine.specs.declared.plan.Flow.{Flow}
 use Rattle.machine.specs.declared.plan.Flow.TheVariants.{Next}
 use Rattle.machine.specs.declared.plan.Plan.{Plan}
-use Rattle.machine.specs.declared.plan.Plan.TheVariants.{Went, Over}
-use Rattle.machine.specs.declared.plan.Fault.{Fault}
+use Rattle.machine.specs.declared.plan.Plan.TheVariants.{Went, Over, Fault}
 use Rattle.machine.specs.View.{Act, State, state, act_of, seen, blank, tops}
 use Rattle.machine.specs.Acts.{with_ops, with_vars, size, first, pushed, dropped}
-use Rattle.machine.specs.States.{faulty, concluded, on_top, settled, main_of, put_main, main_variables, variable_at, loading_main, from_main, set_main, popped, storing_main, to_main, args, has_result, fresh, entry_at, calling, called_by, called, leaving, left, handing, returning, returned, top_free, to_read, top_last, to_send, run, run_by, fetched, main_entry, opened, begun, advancing, advanced}
+use Rattle.machine.specs.States.{concluded, on_top, settled, main_of, put_main, main_variables, variable_at, loading_main, from_main, set_main, popped, storing_main, to_main, args, has_result, fresh, entry_at, calling, called_by, called, leaving, left, handing, returning, returned, top_free, to_read, top_last, to_send, run, run_by, fetched, main_entry, opened, begun, advancing, advanced}
 use Rattle.machine.proofs.Cells.{down_none}
 use Rattle.machine.proofs.Passed.{passed-vars}
 
@@ -107,21 +106,21 @@ module _ (xs : List Activation) (n : ℕ) (h : 0 < n) (l : n ≤ length xs) wher
       ap (λ (z : List Act). concluded r node next (state z p)) (tops-put y)
       ∙ (ap (λ (z : Act × Result Flow Cause). concluded z.1 node next (state (z.0 ∷ tops xs (n - 1)) p)) e ∙ sym (ap (on_top f node next p) (tops-at d)))
 
-pub settled_none : (xs : List Activation) (n p node next : ℕ) (f : Act → Act × Result Flow Cause) → n ≡ 0 → (state (tops xs n) p, faulty BadCode node) ≡ settled f node next (state (tops xs n) p)
+pub settled_none : (xs : List Activation) (n p node next : ℕ) (f : Act → Act × Result Flow Cause) → n ≡ 0 → (state (tops xs n) p, Fault BadCode node) ≡ settled f node next (state (tops xs n) p)
 unfolding settled
 settled_none xs n p node next f e =
     let t = none_open xs n e in
-    ap (λ (z : List Act). (state z p, faulty BadCode node)) t ∙ sym (ap (on_top f node next p) t)
+    ap (λ (z : List Act). (state z p, Fault BadCode node)) t ∙ sym (ap (on_top f node next p) t)
 
-pub call_none : (code : List ℕ) (f node next : ℕ) (s : State) → None ≡ entry_at code f → (s, faulty BadCode node) ≡ called code f node next s
+pub call_none : (code : List ℕ) (f node next : ℕ) (s : State) → None ≡ entry_at code f → (s, Fault BadCode node) ≡ called code f node next s
 unfolding called
 call_none code f node next s e = ap (λ (o : Option Entry). called_by o node next s) e
 
-pub leave_main : (xs : List Activation) (n p node : ℕ) (cause : Cause) → 0 < n → n - 1 ≡ 0 → (state (tops xs n) p, Ok Over) ≡ left cause node (state (tops xs n) p)
+pub leave_main : (xs : List Activation) (n p node : ℕ) (cause : Cause) → 0 < n → n - 1 ≡ 0 → (state (tops xs n) p, Over) ≡ left cause node (state (tops xs n) p)
 unfolding left tops
 leave_main xs n p node cause h e = let f : n ≡ 1 = omega arith in rw f refl
 
-pub return-main : (xs : List Activation) (n p node : ℕ) → 0 < n → n - 1 ≡ 0 → (state (tops xs n) p, faulty BadCode node) ≡ returned node (state (tops xs n) p)
+pub return-main : (xs : List Activation) (n p node : ℕ) → 0 < n → n - 1 ≡ 0 → (state (tops xs n) p, Fault BadCode node) ≡ returned node (state (tops xs n) p)
 unfolding returned tops
 return-main xs n p node h e = let f : n ≡ 1 = omega arith in rw f refl
 
@@ -134,7 +133,7 @@ module _ (xs : List Activation) (n p node next : ℕ) (h : 0 < n) (l : n ≤ len
     of-main : {B : Type 0} (f : List ℤ → B) → f (seen (get_or xs 0 m)).vars ≡ f (main_variables (tops xs n))
     of-main f = sym (ap f (main-at xs n h l m))
 
-    pub load_main_none : None ≡ variable_at (seen (get_or xs 0 m)).vars i → (here, faulty BadCode node) ≡ from_main i node next here
+    pub load_main_none : None ≡ variable_at (seen (get_or xs 0 m)).vars i → (here, Fault BadCode node) ≡ from_main i node next here
     unfolding from_main
     load_main_none e = ap (λ (o : Option ℤ). loading_main o node next here) (e ∙ of-main (λ vs. variable_at vs i))
 
@@ -147,21 +146,21 @@ module _ (xs : List Activation) (n p node next : ℕ) (h : 0 < n) (l : n ≤ len
       unfolding to_main
       with_last o e = ap (λ (q : Option ℤ). storing_main i q node next here) (e ∙ sym (top_last_lem xs n h l d))
 
-      pub store_main_none : None ≡ first (seen (get_or xs (n - 1) d)).ops → (here, faulty BadCode node) ≡ to_main i node next here
+      pub store_main_none : None ≡ first (seen (get_or xs (n - 1) d)).ops → (here, Fault BadCode node) ≡ to_main i node next here
       store_main_none e = with_last None e
 
       module _ (v : ℤ) (e : Some v ≡ first (seen (get_or xs (n - 1) d)).ops) where
-        pub store_main_slot : false ≡ ltb i (length (seen (get_or xs 0 m)).vars) → (here, faulty BadCode node) ≡ to_main i node next here
+        pub store_main_slot : false ≡ ltb i (length (seen (get_or xs 0 m)).vars) → (here, Fault BadCode node) ≡ to_main i node next here
         store_main_slot g =
             let t : ltb i (length (main_variables (tops xs n))) ≡ false = sym (g ∙ of-main (λ vs. ltb i (length vs))) in
-            let u : (here, faulty BadCode node) ≡ storing_main i (Some v) node next here = rw t refl in u ∙ with_last (Some v) e
+            let u : (here, Fault BadCode node) ≡ storing_main i (Some v) node next here = rw t refl in u ∙ with_last (Some v) e
 
         pub store_main_there : true ≡ ltb i (length (seen (get_or xs 0 m)).vars) → (z y d2 : Activation) (r : Result Flow Cause) → seen z ≡ with_vars (seen (get_or xs 0 m)) (set (seen (get_or xs 0 m)).vars i v)
-            → n ≤ length (set xs 0 z) → (seen y, r) ≡ dropped (seen (get_or (set xs 0 z) (n - 1) d2)) → (state (tops (set (set xs 0 z) (n - 1) y) n) next, Ok Went) ≡ to_main i node next here
+            → n ≤ length (set xs 0 z) → (seen y, r) ≡ dropped (seen (get_or (set xs 0 z) (n - 1) d2)) → (state (tops (set (set xs 0 z) (n - 1) y) n) next, Went) ≡ to_main i node next here
         store_main_there g z y d2 r q k f =
             let t : ltb i (length (main_variables (tops xs n))) ≡ true = sym (g ∙ of-main (λ vs. ltb i (length vs))) in
-            let u : (state (popped (set_main i v (tops xs n))) next, Ok Went) ≡ storing_main i (Some v) node next here = rw t refl in
-            ap (λ (ys : List Act). (state ys next, Ok Went)) acts_are ∙ (u ∙ with_last (Some v) e)
+            let u : (state (popped (set_main i v (tops xs n))) next, Went) ≡ storing_main i (Some v) node next here = rw t refl in
+            ap (λ (ys : List Act). (state ys next, Went)) acts_are ∙ (u ∙ with_last (Some v) e)
           where
             main_is : main_of (seen (get_or xs (n - 1) blank)) (tops xs (n - 1)) ≡ seen (get_or xs 0 m)
             main_is = main_last xs (n - 1) ∙ ap seen (any_default xs 0 blank m (omega arith))
@@ -191,14 +190,14 @@ module _ (xs : List Activation) (n p node next : ℕ) (h : 0 < n) (l : n ≤ len
       abbrev top : Act
       top = seen (get_or xs (n - 1) d)
 
-      with_entry : (r : State × Result Plan Fault) → r ≡ calling g node next p (top ∷ tops xs (n - 1)) → r ≡ called code f node next here
+      with_entry : (r : State × Plan) → r ≡ calling g node next p (top ∷ tops xs (n - 1)) → r ≡ called code f node next here
       unfolding called
       with_entry r q = q ∙ (sym (ap (calling g node next p) (tops-at xs n h l d)) ∙ ap (λ (o : Option Entry). called_by o node next here) e)
 
-      pub call-few : length top.ops < g.parameters → (here, faulty BadCode node) ≡ called code f node next here
+      pub call-few : length top.ops < g.parameters → (here, Fault BadCode node) ≡ called code f node next here
       call-few k =
           let t : ltb (length top.ops) g.parameters ≡ true = grind (arith, nat_tests) in
-          with_entry _ (ap (λ (z : List Act). (state z p, faulty BadCode node)) (tops-at xs n h l d) ∙ rw t refl)
+          with_entry _ (ap (λ (z : List Act). (state z p, Fault BadCode node)) (tops-at xs n h l d) ∙ rw t refl)
 
       module _ (k : g.parameters ≤ length top.ops) where
         enough : ltb (length top.ops) g.parameters ≡ false
@@ -207,20 +206,20 @@ module _ (xs : List Activation) (n p node next : ℕ) (h : 0 < n) (l : n ≤ len
         open_now : length (top ∷ tops xs (n - 1)) ≡ n
         open_now = let t = length-tops xs (n - 1) in omega arith
 
-        pub call-deep : 32 ≤ n → (here, faulty TooDeep node) ≡ called code f node next here
+        pub call-deep : 32 ≤ n → (here, Fault TooDeep node) ≡ called code f node next here
         call-deep m =
             let t : ltb (length (top ∷ tops xs (n - 1))) 32 ≡ false = rw open_now (grind (arith, nat_tests)) in
-            with_entry _ (ap (λ (z : List Act). (state z p, faulty TooDeep node)) (tops-at xs n h l d) ∙ rw enough (rw t refl))
+            with_entry _ (ap (λ (z : List Act). (state z p, Fault TooDeep node)) (tops-at xs n h l d) ∙ rw enough (rw t refl))
 
         pub call_in : n < 32 → (y z : Activation) → seen y ≡ with_ops top (drop g.parameters top.ops) → seen z ≡ fresh g next (args g.parameters top.ops)
-            → n < length (set xs (n - 1) y) → (state (tops (set (set xs (n - 1) y) n z) (n + 1)) g.address, Ok Went) ≡ called code f node next here
+            → n < length (set xs (n - 1) y) → (state (tops (set (set xs (n - 1) y) n z) (n + 1)) g.address, Went) ≡ called code f node next here
         call_in m y z q r w =
             let t : ltb (length (top ∷ tops xs (n - 1))) 32 ≡ true = rw open_now (grind (arith, nat_tests)) in
             let i : (n + 1) - 1 ≡ n = omega arith in
             let a = tops_more (set xs (n - 1) y) n z w in
             let b = tops-put xs n h l y in
             let u : tops (set (set xs (n - 1) y) n z) (n + 1) ≡ fresh g next (args g.parameters top.ops) ∷ with_ops top (drop g.parameters top.ops) ∷ tops xs (n - 1) = cc in
-            with_entry _ (ap (λ (s : List Act). (state s g.address, Ok Went)) u ∙ rw enough (rw t refl))
+            with_entry _ (ap (λ (s : List Act). (state s g.address, Went)) u ∙ rw enough (rw t refl))
 
   -- closing
   module _ (k : n - 1 ≡ 0 → ⊥) (d c : Activation) where
@@ -235,50 +234,50 @@ module _ (xs : List Activation) (n p node next : ℕ) (h : 0 < n) (l : n ≤ len
         let t = tops-at xs n h l d in
         let u = tops-at xs (n - 1) (omega (arith, k)) (omega arith) c in cc
 
-    abbrev leaves_by : Cause → Bool → State × Result Plan Fault
-    leaves_by cause b = cond b (state (newest ∷ caller ∷ tops xs ((n - 1) - 1)) p, faulty cause node) (state (caller ∷ tops xs ((n - 1) - 1)) newest.back, Ok Went)
+    abbrev leaves_by : Cause → Bool → State × Plan
+    leaves_by cause b = cond b (state (newest ∷ caller ∷ tops xs ((n - 1) - 1)) p, Fault cause node) (state (caller ∷ tops xs ((n - 1) - 1)) newest.back, Went)
 
-    leaves : (cause : Cause) (r : State × Result Plan Fault) (b : Bool) → b ≡ newest.gives → r ≡ leaves_by cause b → r ≡ left cause node here
+    leaves : (cause : Cause) (r : State × Plan) (b : Bool) → b ≡ newest.gives → r ≡ leaves_by cause b → r ≡ left cause node here
     unfolding left
     leaves cause r b e q = q ∙ (ap (leaves_by cause) e ∙ sym (ap (leaving cause node p) tops-two))
 
-    pub leave_gives : (cause : Cause) → newest.gives ≡ true → (here, faulty cause node) ≡ left cause node here
-    leave_gives cause e = leaves cause _ true (sym e) (ap (λ (z : List Act). (state z p, faulty cause node)) tops-two)
+    pub leave_gives : (cause : Cause) → newest.gives ≡ true → (here, Fault cause node) ≡ left cause node here
+    leave_gives cause e = leaves cause _ true (sym e) (ap (λ (z : List Act). (state z p, Fault cause node)) tops-two)
 
-    pub leave_back : (cause : Cause) → newest.gives ≡ false → (state (tops xs (n - 1)) newest.back, Ok Went) ≡ left cause node here
-    leave_back cause e = leaves cause _ false (sym e) (ap (λ (z : List Act). (state z newest.back, Ok Went)) (tops-at xs (n - 1) (omega (arith, k)) (omega arith) c))
+    pub leave_back : (cause : Cause) → newest.gives ≡ false → (state (tops xs (n - 1)) newest.back, Went) ≡ left cause node here
+    leave_back cause e = leaves cause _ false (sym e) (ap (λ (z : List Act). (state z newest.back, Went)) (tops-at xs (n - 1) (omega (arith, k)) (omega arith) c))
 
-    abbrev bad : State × Result Plan Fault
-    bad = (state (newest ∷ caller ∷ tops xs ((n - 1) - 1)) p, faulty BadCode node)
+    abbrev bad : State × Plan
+    bad = (state (newest ∷ caller ∷ tops xs ((n - 1) - 1)) p, Fault BadCode node)
 
-    abbrev returns_by : Bool → Option ℤ → State × Result Plan Fault
+    abbrev returns_by : Bool → Option ℤ → State × Plan
     returns_by b o = cond b (handing node p newest caller (tops xs ((n - 1) - 1)) o) bad
 
-    with_two : (r : State × Result Plan Fault) (b : Bool) (o : Option ℤ) → b ≡ newest.gives → o ≡ first newest.ops → r ≡ returns_by b o → r ≡ returned node here
+    with_two : (r : State × Plan) (b : Bool) (o : Option ℤ) → b ≡ newest.gives → o ≡ first newest.ops → r ≡ returns_by b o → r ≡ returned node here
     unfolding returned
     with_two r b o e f q = q ∙ (ap (λ (x : Bool). returns_by x o) e ∙ (ap (returns_by newest.gives) f ∙ sym (ap (returning node p) tops-two)))
 
-    bad_is : (here, faulty BadCode node) ≡ bad
-    bad_is = ap (λ (z : List Act). (state z p, faulty BadCode node)) tops-two
+    bad_is : (here, Fault BadCode node) ≡ bad
+    bad_is = ap (λ (z : List Act). (state z p, Fault BadCode node)) tops-two
 
-    pub return_not : newest.gives ≡ false → (here, faulty BadCode node) ≡ returned node here
+    pub return_not : newest.gives ≡ false → (here, Fault BadCode node) ≡ returned node here
     return_not e = with_two _ false (first newest.ops) (sym e) refl bad_is
 
     module _ (e : newest.gives ≡ true) where
-      pub return_none : None ≡ first newest.ops → (here, faulty BadCode node) ≡ returned node here
+      pub return_none : None ≡ first newest.ops → (here, Fault BadCode node) ≡ returned node here
       return_none f = with_two _ true None (sym e) f bad_is
 
       module _ (v : ℤ) (f : Some v ≡ first newest.ops) where
-        pub return_full : false ≡ ltb (size caller) 64 → (here, faulty BadCode node) ≡ returned node here
+        pub return_full : false ≡ ltb (size caller) 64 → (here, Fault BadCode node) ≡ returned node here
         return_full g = with_two _ true (Some v) (sym e) f (bad_is ∙ rw (← g) refl)
 
-        pub return_in : true ≡ ltb (size caller) 64 → (y : Activation) (r : Result Flow Cause) → (seen y, r) ≡ pushed v caller → (state (tops (set xs ((n - 1) - 1) y) (n - 1)) newest.back, Ok Went) ≡ returned node here
+        pub return_in : true ≡ ltb (size caller) 64 → (y : Activation) (r : Result Flow Cause) → (seen y, r) ≡ pushed v caller → (state (tops (set xs ((n - 1) - 1) y) (n - 1)) newest.back, Went) ≡ returned node here
         unfolding pushed
         return_in g y r q =
             let u : pushed v caller ≡ (with_ops caller (v ∷ caller.ops), Ok Next) = rw (← g) refl in
             let w : seen y ≡ with_ops caller (v ∷ caller.ops) = ap (λ (z : Act × Result Flow Cause). z.0) (q ∙ u) in
             let t = tops-put xs (n - 1) (omega (arith, k)) (omega arith) y in
-            with_two _ true (Some v) (sym e) f (ap (λ (z : List Act). (state z newest.back, Ok Went)) (t ∙ ap (λ (a : Act). a ∷ tops xs ((n - 1) - 1)) w) ∙ rw (← g) refl)
+            with_two _ true (Some v) (sym e) f (ap (λ (z : List Act). (state z newest.back, Went)) (t ∙ ap (λ (a : Act). a ∷ tops xs ((n - 1) - 1)) w) ∙ rw (← g) refl)
 
 -- a new activation
 pub fresh_is : (g : Entry) (back : ℕ) (vs cells : List ℤ) → cells ≡ vs ++ replicate (64 - g.parameters) (pos 0) → length vs ≡ g.parameters → g.parameters ≤ g.variables → g.variables ≤ 32
@@ -290,7 +289,7 @@ fresh_is g back vs cells e f k m =
     rw (u, w) refl
 
 -- the next word
-pub fetch-out : (code : List ℕ) (s : State) → length code ≤ s.at → (s, faulty BadCode 0) ≡ fetched code s
+pub fetch-out : (code : List ℕ) (s : State) → length code ≤ s.at → (s, Fault BadCode 0) ≡ fetched code s
 unfolding fetched
 fetch-out code s h = let e : ltb s.at (length code) ≡ false = grind (arith, nat_tests) in rw e refl
 
@@ -302,7 +301,7 @@ fetch_in code s o node h k q =
     rw e (ap (λ (z : Option Instruction). run_by z node (s.at + 1) code s) k ∙ ap (λ (z : ℕ). run_by (instruction_of (get_or code s.at 0)) z (s.at + 1) code s) q)
 
 -- the first step, and a later one
-pub first_none : (code : List ℕ) (s : State) → s.acts ≡ [] → None ≡ main_entry code → (s, faulty BadCode 0) ≡ advanced code s
+pub first_none : (code : List ℕ) (s : State) → s.acts ≡ [] → None ≡ main_entry code → (s, Fault BadCode 0) ≡ advanced code s
 unfolding advanced
 first_none code s e h = ap (begun code s) h ∙ sym (ap (advancing code s) e)
 
@@ -327,15 +326,15 @@ main-opened xs x p g h e k m q =
 
 -- reads and writes, as far as they are planned
 module _ (xs : List Activation) (n p node next : ℕ) (h : 0 < n) (l : n ≤ length xs) (code : List ℕ) (i : Instruction) (q : Format) where
-  pub run-read : i ≡ ReadAct q → (d : Activation) (b : Bool) → b ≡ ltb (size (seen (get_or xs (n - 1) d))) 64 → (r : Result Plan Fault) → r ≡ to_read b q node next → (state (tops xs n) p, r) ≡ run i node next code (state (tops xs n) p)
+  pub run-read : i ≡ ReadAct q → (d : Activation) (b : Bool) → b ≡ ltb (size (seen (get_or xs (n - 1) d))) 64 → (r : Plan) → r ≡ to_read b q node next → (state (tops xs n) p, r) ≡ run i node next code (state (tops xs n) p)
   run-read e d b f r g =
       let k : b ≡ top_free (tops xs n) = f ∙ sym (top-free xs n h l d) in
-      ap (λ (z : Result Plan Fault). (state (tops xs n) p, z)) (g ∙ ap (λ (z : Bool). to_read z q node next) k) ∙ sym (ap (λ (z : Instruction). run z node next code (state (tops xs n) p)) e)
+      ap (λ (z : Plan). (state (tops xs n) p, z)) (g ∙ ap (λ (z : Bool). to_read z q node next) k) ∙ sym (ap (λ (z : Instruction). run z node next code (state (tops xs n) p)) e)
 
-  pub run-write : i ≡ Write q → (d : Activation) (o : Option ℤ) → o ≡ first (seen (get_or xs (n - 1) d)).ops → (r : Result Plan Fault) → r ≡ to_send o q node next → (state (tops xs n) p, r) ≡ run i node next code (state (tops xs n) p)
+  pub run-write : i ≡ Write q → (d : Activation) (o : Option ℤ) → o ≡ first (seen (get_or xs (n - 1) d)).ops → (r : Plan) → r ≡ to_send o q node next → (state (tops xs n) p, r) ≡ run i node next code (state (tops xs n) p)
   run-write e d o f r g =
       let k : o ≡ top_last (tops xs n) = f ∙ sym (top_last_lem xs n h l d) in
-      ap (λ (z : Result Plan Fault). (state (tops xs n) p, z)) (g ∙ ap (λ (z : Option ℤ). to_send z q node next) k) ∙ sym (ap (λ (z : Instruction). run z node next code (state (tops xs n) p)) e)
+      ap (λ (z : Plan). (state (tops xs n) p, z)) (g ∙ ap (λ (z : Option ℤ). to_send z q node next) k) ∙ sym (ap (λ (z : Instruction). run z node next code (state (tops xs n) p)) e)
 
 -- what stands in a slot, and 0 where there is none
 pub slot_is : (vars : List ℤ) (i : ℕ) → unwrap_or (variable_at vars i) (pos 0) ≡ get_or vars i (pos 0)

@@ -13,34 +13,21 @@ use Rattle.machine.specs.declared.plan.Cause.{Cause}
 use Rattle.machine.specs.declared.plan.Cause.TheVariants.{BadCode, TooDeep, NoReturn}
 use Rattle.machine.specs.declared.plan.Flow.{Flow}
 use Rattle.machine.specs.declared.plan.Plan.{Plan}
-use Rattle.machine.specs.declared.plan.Plan.TheVariants.{Went, Over, Read, Send}
-use Rattle.machine.specs.declared.plan.Fault.{Fault}
-use Rattle.machine.specs.declared.plan.Site.{Site}
+use Rattle.machine.specs.declared.plan.Plan.TheVariants.{Went, Over, Fault, Read, Send}
 use Rattle.machine.specs.View.{Act, State, state}
 use Rattle.machine.specs.Acts.{with_ops, with_vars, after, size, first, pushed, dropped, act_by}
 
--- a word of a node, with the next one at `next`
-abbrev pub site : ℕ → ℕ → Site
-site node next = record { node = node; next = next }
-
--- a fault of the word of a node
-abbrev pub fault : Cause → ℕ → Fault
-fault cause node = record { cause = cause; node = node }
-
-abbrev pub faulty : Cause → ℕ → Result Plan Fault
-faulty cause node = Err (fault cause node)
-
 -- How an act of the newest activation is concluded; a fault leaves the machine as it is.
-abbrev pub concluded : Result Flow Cause → ℕ → ℕ → State → State × Result Plan Fault
-concluded (Ok flow) node next s = (state s.acts (after flow next), Ok Went)
-concluded (Err cause) node next s = (s, faulty cause node)
+abbrev pub concluded : Result Flow Cause → ℕ → ℕ → State → State × Plan
+concluded (Ok flow) node next s = (state s.acts (after flow next), Went)
+concluded (Err cause) node next s = (s, Fault cause node)
 
 -- An act of the newest activation.
-abbrev pub on_top : (Act → Act × Result Flow Cause) → ℕ → ℕ → ℕ → List Act → State × Result Plan Fault
-on_top f node next p [] = (state [] p, faulty BadCode node)
+abbrev pub on_top : (Act → Act × Result Flow Cause) → ℕ → ℕ → ℕ → List Act → State × Plan
+on_top f node next p [] = (state [] p, Fault BadCode node)
 on_top f node next p (a ∷ xs) = concluded (f a).1 node next (state ((f a).0 ∷ xs) p)
 
-unfoldable pub settled : (Act → Act × Result Flow Cause) → ℕ → ℕ → State → State × Result Plan Fault
+unfoldable pub settled : (Act → Act × Result Flow Cause) → ℕ → ℕ → State → State × Plan
 settled f node next s = on_top f node next s.at s.acts
 
 -- Main's activation stands last.
@@ -62,11 +49,11 @@ abbrev pub variable_at : List ℤ → ℕ → Option ℤ
 variable_at vars i = cond (nat_lt i (length vars)) (Some (slice_index_or vars i (pos 0))) None
 
 -- A variable of main becomes an operand.
-abbrev pub loading_main : Option ℤ → ℕ → ℕ → State → State × Result Plan Fault
-loading_main None node next s = (s, faulty BadCode node)
+abbrev pub loading_main : Option ℤ → ℕ → ℕ → State → State × Plan
+loading_main None node next s = (s, Fault BadCode node)
 loading_main (Some v) node next s = settled (pushed v) node next s
 
-unfoldable pub from_main : ℕ → ℕ → ℕ → State → State × Result Plan Fault
+unfoldable pub from_main : ℕ → ℕ → ℕ → State → State × Plan
 from_main i node next s = loading_main (variable_at (main_variables s.acts) i) node next s
 
 -- The last operand becomes the value of a variable of main, and then goes.
@@ -82,12 +69,12 @@ abbrev pub top_last : List Act → Option ℤ
 top_last [] = None
 top_last (a ∷ xs) = first a.ops
 
-abbrev pub storing_main : ℕ → Option ℤ → ℕ → ℕ → State → State × Result Plan Fault
-storing_main i None node next s = (s, faulty BadCode node)
+abbrev pub storing_main : ℕ → Option ℤ → ℕ → ℕ → State → State × Plan
+storing_main i None node next s = (s, Fault BadCode node)
 storing_main i (Some v) node next s =
-    cond (nat_lt i (length (main_variables s.acts))) (state (popped (set_main i v s.acts)) next, Ok Went) (s, faulty BadCode node)
+    cond (nat_lt i (length (main_variables s.acts))) (state (popped (set_main i v s.acts)) next, Went) (s, Fault BadCode node)
 
-unfoldable pub to_main : ℕ → ℕ → ℕ → State → State × Result Plan Fault
+unfoldable pub to_main : ℕ → ℕ → ℕ → State → State × Plan
 to_main i node next s = storing_main i (top_last s.acts) node next s
 
 -- The upper n operands, in the order in which they were pushed.
@@ -108,43 +95,43 @@ unfoldable pub entry_at : List ℕ → ℕ → Option Entry
 entry_at code f = cond (nat_lt f (length code)) (entry_of (slice_index code f)) None
 
 -- A call: bad code without an entry word or with too few operands, a fault of its own where 32 activations are open.
-abbrev pub calling : Entry → ℕ → ℕ → ℕ → List Act → State × Result Plan Fault
-calling e node next p [] = (state [] p, faulty BadCode node)
+abbrev pub calling : Entry → ℕ → ℕ → ℕ → List Act → State × Plan
+calling e node next p [] = (state [] p, Fault BadCode node)
 calling e node next p (a ∷ xs) =
-    cond (nat_lt (length a.ops) e.parameters) (state (a ∷ xs) p, faulty BadCode node)
+    cond (nat_lt (length a.ops) e.parameters) (state (a ∷ xs) p, Fault BadCode node)
     (cond (nat_lt (length (a ∷ xs)) 32)
-    (state (fresh e next (args e.parameters a.ops) ∷ with_ops a (drop e.parameters a.ops) ∷ xs) e.address, Ok Went)
-    (state (a ∷ xs) p, faulty TooDeep node))
+    (state (fresh e next (args e.parameters a.ops) ∷ with_ops a (drop e.parameters a.ops) ∷ xs) e.address, Went)
+    (state (a ∷ xs) p, Fault TooDeep node))
 
-abbrev pub called_by : Option Entry → ℕ → ℕ → State → State × Result Plan Fault
-called_by None node next s = (s, faulty BadCode node)
+abbrev pub called_by : Option Entry → ℕ → ℕ → State → State × Plan
+called_by None node next s = (s, Fault BadCode node)
 called_by (Some e) node next s = calling e node next s.at s.acts
 
-unfoldable pub called : List ℕ → ℕ → ℕ → ℕ → State → State × Result Plan Fault
+unfoldable pub called : List ℕ → ℕ → ℕ → ℕ → State → State × Plan
 called code f node next s = called_by (entry_at code f) node next s
 
 -- The newest activation closes without a result. Where its function has one, that is the fault of the given cause.
 -- Main's activation stays, so that its variables can still be read.
-abbrev pub leaving : Cause → ℕ → ℕ → List Act → State × Result Plan Fault
-leaving cause node p [] = (state [] p, faulty BadCode node)
-leaving cause node p (a ∷ []) = (state (a ∷ []) p, Ok Over)
-leaving cause node p (a ∷ c ∷ cs) = cond a.gives (state (a ∷ c ∷ cs) p, faulty cause node) (state (c ∷ cs) a.back, Ok Went)
+abbrev pub leaving : Cause → ℕ → ℕ → List Act → State × Plan
+leaving cause node p [] = (state [] p, Fault BadCode node)
+leaving cause node p (a ∷ []) = (state (a ∷ []) p, Over)
+leaving cause node p (a ∷ c ∷ cs) = cond a.gives (state (a ∷ c ∷ cs) p, Fault cause node) (state (c ∷ cs) a.back, Went)
 
-unfoldable pub left : Cause → ℕ → State → State × Result Plan Fault
+unfoldable pub left : Cause → ℕ → State → State × Plan
 left cause node s = leaving cause node s.at s.acts
 
 -- It closes with a result, which becomes an operand of its caller: bad code in main, without a result to give, without
 -- an operand, and where the caller has no cell free.
-abbrev pub handing : ℕ → ℕ → Act → Act → List Act → Option ℤ → State × Result Plan Fault
-handing node p a c cs None = (state (a ∷ c ∷ cs) p, faulty BadCode node)
-handing node p a c cs (Some v) = cond (nat_lt (size c) 64) (state (with_ops c (v ∷ c.ops) ∷ cs) a.back, Ok Went) (state (a ∷ c ∷ cs) p, faulty BadCode node)
+abbrev pub handing : ℕ → ℕ → Act → Act → List Act → Option ℤ → State × Plan
+handing node p a c cs None = (state (a ∷ c ∷ cs) p, Fault BadCode node)
+handing node p a c cs (Some v) = cond (nat_lt (size c) 64) (state (with_ops c (v ∷ c.ops) ∷ cs) a.back, Went) (state (a ∷ c ∷ cs) p, Fault BadCode node)
 
-abbrev pub returning : ℕ → ℕ → List Act → State × Result Plan Fault
-returning node p [] = (state [] p, faulty BadCode node)
-returning node p (a ∷ []) = (state (a ∷ []) p, faulty BadCode node)
-returning node p (a ∷ c ∷ cs) = cond a.gives (handing node p a c cs (first a.ops)) (state (a ∷ c ∷ cs) p, faulty BadCode node)
+abbrev pub returning : ℕ → ℕ → List Act → State × Plan
+returning node p [] = (state [] p, Fault BadCode node)
+returning node p (a ∷ []) = (state (a ∷ []) p, Fault BadCode node)
+returning node p (a ∷ c ∷ cs) = cond a.gives (handing node p a c cs (first a.ops)) (state (a ∷ c ∷ cs) p, Fault BadCode node)
 
-unfoldable pub returned : ℕ → State → State × Result Plan Fault
+unfoldable pub returned : ℕ → State → State × Plan
 returned node s = returning node s.at s.acts
 
 -- A read needs a free cell, a write an operand; what is left of them needs the line.
@@ -152,16 +139,16 @@ abbrev pub top_free : List Act → Bool
 top_free [] = false
 top_free (a ∷ xs) = nat_lt (size a) 64
 
-abbrev pub to_read : Bool → Format → ℕ → ℕ → Result Plan Fault
-to_read true q node next = Ok (Read q (site node next))
-to_read false q node next = faulty BadCode node
+abbrev pub to_read : Bool → Format → ℕ → ℕ → Plan
+to_read true q node next = Read q node next
+to_read false q node next = Fault BadCode node
 
-abbrev pub to_send : Option ℤ → Format → ℕ → ℕ → Result Plan Fault
-to_send None q node next = faulty BadCode node
-to_send (Some v) q node next = Ok (Send q v (site node next))
+abbrev pub to_send : Option ℤ → Format → ℕ → ℕ → Plan
+to_send None q node next = Fault BadCode node
+to_send (Some v) q node next = Send q v node next
 
 -- One instruction, that of a node; the next word is at `next`.
-abbrev pub run : Instruction → ℕ → ℕ → List ℕ → State → State × Result Plan Fault
+abbrev pub run : Instruction → ℕ → ℕ → List ℕ → State → State × Plan
 run (Constant k v) node next code s = settled (act_by (Constant k v)) node next s
 run (Variable Own i) node next code s = settled (act_by (Variable Own i)) node next s
 run (Variable Main i) node next code s = from_main i node next s
@@ -182,14 +169,14 @@ run Return node next code s = returned node s
 run Close node next code s = left NoReturn node s
 run (Write q) node next code s = (s, to_send (top_last s.acts) q node next)
 
-abbrev pub run_by : Option Instruction → ℕ → ℕ → List ℕ → State → State × Result Plan Fault
-run_by None node next code s = (s, faulty BadCode node)
+abbrev pub run_by : Option Instruction → ℕ → ℕ → List ℕ → State → State × Plan
+run_by None node next code s = (s, Fault BadCode node)
 run_by (Some i) node next code s = run i node next code s
 
 -- One word of a machine with main open.
-unfoldable pub fetched : List ℕ → State → State × Result Plan Fault
+unfoldable pub fetched : List ℕ → State → State × Plan
 fetched code s =
-    cond (nat_lt s.at (length code)) (run_by (instruction_of (slice_index code s.at)) (node_of (slice_index code s.at)) (s.at + 1) code s) (s, faulty BadCode 0)
+    cond (nat_lt s.at (length code)) (run_by (instruction_of (slice_index code s.at)) (node_of (slice_index code s.at)) (s.at + 1) code s) (s, Fault BadCode 0)
 
 -- Main's entry word: without a result, without parameters.
 abbrev pub plain_entry : Option Entry → Option Entry
@@ -202,19 +189,14 @@ main_entry code = plain_entry (entry_at code 0)
 abbrev pub opened : Entry → State
 opened e = state (fresh e 0 [] ∷ []) e.address
 
-abbrev pub begun : List ℕ → State → Option Entry → State × Result Plan Fault
-begun code s None = (s, faulty BadCode 0)
+abbrev pub begun : List ℕ → State → Option Entry → State × Plan
+begun code s None = (s, Fault BadCode 0)
 begun code s (Some e) = fetched code (opened e)
 
-abbrev pub advancing : List ℕ → State → List Act → State × Result Plan Fault
+abbrev pub advancing : List ℕ → State → List Act → State × Plan
 advancing code s [] = begun code s (main_entry code)
 advancing code s (a ∷ xs) = fetched code s
 
 -- A step, as far as no line is needed: the first one opens main.
-unfoldable pub advanced : List ℕ → State → State × Result Plan Fault
+unfoldable pub advanced : List ℕ → State → State × Plan
 advanced code s = advancing code s s.acts
-
--- A machine whose opening is taken back, if it was closed before, with the next word at an address.
-abbrev pub undone : Option ℕ → State → State
-undone None s = s
-undone (Some at) s = state [] at

@@ -1,11 +1,10 @@
 -- One step over a line, and its laws.
-use Rattle.std.specs.Prelude.{◌≡◌, ℕ, ◌+◌, ◌-◌, ◌≤◌, cond, ◌⊎◌, List, [], ◌++◌, length, drop, Ok, Err, Result, ◌≢◌, nat_le}
+use Rattle.std.specs.Prelude.{◌≡◌, ℕ, ◌+◌, ◌-◌, ◌≤◌, cond, ◌⊎◌, List, [], ◌++◌, length, drop, ◌≢◌, nat_le}
 use Rattle.number.specs.declared.text.Reading.{Reading}
 use Rattle.number.specs.declared.text.Reading.TheVariants.{Wait, Refused, Took}
 use Rattle.machine.specs.declared.plan.Cause.TheVariants.{RefusedText, NoRoom}
 use Rattle.machine.specs.declared.plan.Plan.{Plan}
-use Rattle.machine.specs.declared.plan.Plan.TheVariants.{Went, Over, Read, Send}
-use Rattle.machine.specs.declared.plan.Fault.{Fault}
+use Rattle.machine.specs.declared.plan.Plan.TheVariants.{Went, Over, Fault, Read, Send}
 use Rattle.machine.specs.declared.plan.Latch.{Latch}
 use Rattle.machine.specs.declared.plan.Latch.TheVariants.{Open, Ended as Closed, Failed as Broken}
 use Rattle.machine.specs.declared.plan.Outcome.{Outcome}
@@ -13,7 +12,7 @@ use Rattle.machine.specs.declared.plan.Outcome.TheVariants.{Went as Stepped, Wai
 use Rattle.machine.specs.View.{State}
 use Rattle.machine.specs.Values.{finds, text_of}
 use Rattle.machine.specs.Acts.{pushed, dropped}
-use Rattle.machine.specs.States.{faulty, settled, advanced}
+use Rattle.machine.specs.States.{settled, advanced}
 
 -- The machine, and the line as far as it matters to it.
 pub record World : Type 0 where
@@ -27,41 +26,41 @@ abbrev pub world : State → Latch → List ℕ → List ℕ → ℕ → World
 world machine latch waiting sent room = record { machine = machine; latch = latch; waiting = waiting; sent = sent; room = room }
 
 -- An end and a fault are kept.
-abbrev pub latch_of : Result Plan Fault → Latch
-latch_of (Ok Went) = Open
-latch_of (Ok Over) = Closed
-latch_of (Err f) = Broken f.cause f.node
-latch_of (Ok (Read q at)) = Open
-latch_of (Ok (Send q v at)) = Open
+abbrev pub latch_of : Plan → Latch
+latch_of Went = Open
+latch_of Over = Closed
+latch_of (Fault c n) = Broken c n
+latch_of (Read q node next) = Open
+latch_of (Send q v node next) = Open
 
-abbrev pub outcome_of : Result Plan Fault → Outcome
-outcome_of (Ok Went) = Stepped
-outcome_of (Ok Over) = Ended
-outcome_of (Err f) = Failed f.cause f.node
-outcome_of (Ok (Read q at)) = Stepped
-outcome_of (Ok (Send q v at)) = Stepped
+abbrev pub outcome_of : Plan → Outcome
+outcome_of Went = Stepped
+outcome_of Over = Ended
+outcome_of (Fault c n) = Failed c n
+outcome_of (Read q node next) = Stepped
+outcome_of (Send q v node next) = Stepped
 
-abbrev pub finished : State × Result Plan Fault → List ℕ → List ℕ → ℕ → World × Outcome
+abbrev pub finished : State × Plan → List ℕ → List ℕ → ℕ → World × Outcome
 finished p waiting sent room = (world p.0 (latch_of p.1) waiting sent room, outcome_of p.1)
 
 -- A read, by what it finds: it waits with nothing changed, refuses the text and takes nothing, or takes its bytes.
 abbrev pub received : State → State → ℕ → ℕ → Reading → List ℕ → List ℕ → ℕ → World × Outcome
 received before s node next Wait waiting sent room = (world before Open waiting sent room, Waits)
-received before s node next Refused waiting sent room = finished (s, faulty RefusedText node) waiting sent room
+received before s node next Refused waiting sent room = finished (s, Fault RefusedText node) waiting sent room
 received before s node next (Took v n) waiting sent room = finished (settled (pushed v) node next s) (drop n waiting) sent room
 
 -- A write: all of its bytes, or none if they are more than the room.
 abbrev pub delivered : State → ℕ → ℕ → List ℕ → List ℕ → List ℕ → ℕ → World × Outcome
 delivered s node next text waiting sent room =
-    cond (nat_le (length text) room) (finished (settled dropped node next s) waiting (sent ++ text) (room - length text)) (finished (s, faulty NoRoom node) waiting sent room)
+    cond (nat_le (length text) room) (finished (settled dropped node next s) waiting (sent ++ text) (room - length text)) (finished (s, Fault NoRoom node) waiting sent room)
 
 -- A plan, performed; `before` is the machine before the step.
-abbrev pub performed : State → State → Result Plan Fault → List ℕ → List ℕ → ℕ → World × Outcome
-performed before s (Ok Went) waiting sent room = finished (s, Ok Went) waiting sent room
-performed before s (Ok Over) waiting sent room = finished (s, Ok Over) waiting sent room
-performed before s (Ok (Read q at)) waiting sent room = received before s at.node at.next (finds q waiting) waiting sent room
-performed before s (Ok (Send q v at)) waiting sent room = delivered s at.node at.next (text_of q v) waiting sent room
-performed before s (Err f) waiting sent room = finished (s, Err f) waiting sent room
+abbrev pub performed : State → State → Plan → List ℕ → List ℕ → ℕ → World × Outcome
+performed before s Went waiting sent room = finished (s, Went) waiting sent room
+performed before s Over waiting sent room = finished (s, Over) waiting sent room
+performed before s (Fault c n) waiting sent room = finished (s, Fault c n) waiting sent room
+performed before s (Read q node next) waiting sent room = received before s node next (finds q waiting) waiting sent room
+performed before s (Send q v node next) waiting sent room = delivered s node next (text_of q v) waiting sent room
 
 abbrev pub stepping : Latch → List ℕ → World → World × Outcome
 stepping Open code w = performed w.machine (advanced code w.machine).0 (advanced code w.machine).1 w.waiting w.sent w.room

@@ -1,19 +1,13 @@
 // One step as far as no line is needed: what each instruction does to the machine.
-ghost use Rattle.std.specs.Prelude.{◌≡◌, ◌-◌, ◌<◌, ◌≤◌, IfSome, IfErr, OnOk, Result, Err};
+ghost use Rattle.std.specs.Prelude.{◌≡◌, ◌-◌, ◌<◌, ◌≤◌, [], IfSome, if◌then◌else◌, MatchBool};
 ghost use Rattle.machine.specs.View.{State, act_of, seen, state, view};
 ghost use Rattle.machine.specs.Acts.{pushed, dropped, act_by};
-ghost use Rattle.machine.specs.States.{concluded, settled, from_main, to_main, has_result, entry_at, called, left, returned, to_read, to_send, run, fetched, main_entry, advanced, undone};
+ghost use Rattle.machine.specs.States.{concluded, settled, from_main, to_main, has_result, entry_at, called, left, returned, to_read, to_send, run, fetched, main_entry, advanced};
 
-use crate::plan::{Cause, Fault, Flow, Plan, Site};
+use crate::plan::{Cause, Flow, Plan};
 use crate::state::{Activation, Core};
 use code::{Entry, Instruction, decode, decode_entry, node_of};
 use table::{Format, Kind, Scope};
-
-// Bad code where no word stands, or at main's entry word.
-const NOWHERE: Fault = Fault {
-    cause: Cause::BadCode,
-    node: 0,
-};
 
 // The entry word of a function, if the code has it.
 fn entry_at(code: &[u64], function: usize) -> Option<Entry>
@@ -55,224 +49,239 @@ fn open(found: Entry, cells: [i16; 64], back: usize) -> Activation
     }
 }
 
-fn to_read(free: bool, format: Format, site: Site) -> Result<Plan, Fault>
-    ensures { result ≡ to_read free format site.node site.next }
+fn to_read(free: bool, format: Format, node: u16, next: usize) -> Plan
+    ensures { result ≡ to_read free format node next }
 {
     if free {
-        Ok(Plan::Read(format, site))
+        Plan::Read(format, node, next)
     } else {
-        Err(site.fault(Cause::BadCode))
+        Plan::Fault(Cause::BadCode, node)
     }
 }
 
-fn to_send(last: Option<i16>, format: Format, site: Site) -> Result<Plan, Fault>
-    ensures { result ≡ to_send last format site.node site.next }
+fn to_send(last: Option<i16>, format: Format, node: u16, next: usize) -> Plan
+    ensures { result ≡ to_send last format node next }
 {
-    let value = last.ok_or(site.fault(Cause::BadCode))?;
-    Ok(Plan::Send(format, value, site))
+    match last {
+        None => Plan::Fault(Cause::BadCode, node),
+        Some(value) => Plan::Send(format, value, node, next),
+    }
 }
 
 // `act`, `receive` and `release` differ in the act alone. As one function that takes the act as a closure they would be
 // no plainer: its contract would have to speak of every closure's effect on what an activation stands for.
 impl Core {
-    fn conclude(&mut self, effect: Result<Flow, Cause>, site: Site) -> Result<Plan, Fault>
-        ensures { (view self.new, result) ≡ concluded effect site.node site.next (view self.old) }
+    fn conclude(&mut self, effect: Result<Flow, Cause>, node: u16, next: usize) -> Plan
+        ensures { (view self.new, result) ≡ concluded effect node next (view self.old) }
     {
-        let flow = effect.map_err(|cause| site.fault(cause))?;
-        self.at = flow.after(site.next);
-        Ok(Plan::Went)
+        match effect {
+            Err(cause) => Plan::Fault(cause, node),
+            Ok(flow) => {
+                self.at = flow.after(next);
+                Plan::Went
+            }
+        }
     }
 
     // Here and below `_read` stands since the prover follows an element that is changed in a struct with a fact of its
     // own only where one was read before.
-    fn act(&mut self, instruction: Instruction, site: Site) -> Result<Plan, Fault>
+    fn act(&mut self, instruction: Instruction, node: u16, next: usize) -> Plan
         requires { 0 < self.old.depth }
-        ensures { (view self.new, result) ≡ settled (act_by instruction) site.node site.next (view self.old) }
+        ensures { (view self.new, result) ≡ settled (act_by instruction) node next (view self.old) }
     {
         let top = self.depth - 1;
         let _read = &self.activations[top];
         let effect = self.activations[top].act(instruction);
-        self.conclude(effect, site)
+        self.conclude(effect, node, next)
     }
 
     // One operand more on the newest activation, if there is one.
-    pub fn receive(&mut self, value: i16, site: Site) -> Result<Plan, Fault>
-        ensures { (view self.new, result) ≡ settled (pushed value) site.node site.next (view self.old) }
+    pub fn receive(&mut self, value: i16, node: u16, next: usize) -> Plan
+        ensures { (view self.new, result) ≡ settled (pushed value) node next (view self.old) }
     {
         if self.depth == 0 {
-            return Err(site.fault(Cause::BadCode));
+            return Plan::Fault(Cause::BadCode, node);
         }
         let top = self.depth - 1;
         let _read = &self.activations[top];
         let effect = self.activations[top].push(value);
-        self.conclude(effect, site)
+        self.conclude(effect, node, next)
     }
 
     // One operand fewer on the newest activation, if there is one.
-    pub fn release(&mut self, site: Site) -> Result<Plan, Fault>
-        ensures { (view self.new, result) ≡ settled dropped site.node site.next (view self.old) }
+    pub fn release(&mut self, node: u16, next: usize) -> Plan
+        ensures { (view self.new, result) ≡ settled dropped node next (view self.old) }
     {
         if self.depth == 0 {
-            return Err(site.fault(Cause::BadCode));
+            return Plan::Fault(Cause::BadCode, node);
         }
         let top = self.depth - 1;
         let _read = &self.activations[top];
         let effect = self.activations[top].discard();
-        self.conclude(effect, site)
+        self.conclude(effect, node, next)
     }
 
-    fn load_main(&mut self, slot: usize, site: Site) -> Result<Plan, Fault>
+    fn load_main(&mut self, slot: usize, node: u16, next: usize) -> Plan
         requires { 0 < self.old.depth }
-        ensures { (view self.new, result) ≡ from_main slot site.node site.next (view self.old) }
+        ensures { (view self.new, result) ≡ from_main slot node next (view self.old) }
     {
-        let value = self.activations[0]
-            .variable(slot)
-            .ok_or(site.fault(Cause::BadCode))?;
-        self.receive(value, site)
+        match self.activations[0].variable(slot) {
+            None => Plan::Fault(Cause::BadCode, node),
+            Some(value) => self.receive(value, node, next),
+        }
     }
 
-    fn store_main(&mut self, slot: usize, site: Site) -> Result<Plan, Fault>
+    fn store_main(&mut self, slot: usize, node: u16, next: usize) -> Plan
         requires { 0 < self.old.depth }
-        ensures { (view self.new, result) ≡ to_main slot site.node site.next (view self.old) }
+        ensures { (view self.new, result) ≡ to_main slot node next (view self.old) }
     {
         let top = self.depth - 1;
-        let value = self.activations[top]
-            .last()
-            .ok_or(site.fault(Cause::BadCode))?;
+        let Some(value) = self.activations[top].last() else {
+            return Plan::Fault(Cause::BadCode, node);
+        };
         if !self.activations[0].has(slot) {
-            return Err(site.fault(Cause::BadCode));
+            return Plan::Fault(Cause::BadCode, node);
         }
         self.activations[0].assign(slot, value);
         let _ = self.activations[top].discard();
-        self.at = site.next;
-        Ok(Plan::Went)
+        self.at = next;
+        Plan::Went
     }
 
-    fn call(&mut self, function: u32, site: Site, code: &[u64]) -> Result<Plan, Fault>
+    fn call(&mut self, function: u32, node: u16, next: usize, code: &[u64]) -> Plan
         requires { 0 < self.old.depth }
-        ensures { (view self.new, result) ≡ called code.now function site.node site.next (view self.old) }
+        ensures { (view self.new, result) ≡ called code.now function node next (view self.old) }
     {
-        let found = entry_at(code, function as usize).ok_or(site.fault(Cause::BadCode))?;
+        let Some(found) = entry_at(code, function as usize) else {
+            return Plan::Fault(Cause::BadCode, node);
+        };
         let depth = self.depth;
         let given = usize::from(found.parameters);
         if self.activations[depth - 1].operands().len() < given {
-            return Err(site.fault(Cause::BadCode));
+            return Plan::Fault(Cause::BadCode, node);
         }
         if depth >= 32 {
-            return Err(site.fault(Cause::TooDeep));
+            return Plan::Fault(Cause::TooDeep, node);
         }
         let cells = self.activations[depth - 1].arguments(given);
         self.activations[depth - 1].release(given);
-        self.activations[depth] = open(found, cells, site.next);
+        self.activations[depth] = open(found, cells, next);
         self.depth = depth + 1;
         self.at = usize::from(found.address);
-        Ok(Plan::Went)
+        Plan::Went
     }
 
-    fn leave(&mut self, cause: Cause, site: Site) -> Result<Plan, Fault>
+    fn leave(&mut self, cause: Cause, node: u16) -> Plan
         requires { 0 < self.old.depth }
-        ensures { (view self.new, result) ≡ left cause site.node (view self.old) }
+        ensures { (view self.new, result) ≡ left cause node (view self.old) }
     {
         let top = self.depth - 1;
         if top == 0 {
-            return Ok(Plan::Over);
+            return Plan::Over;
         }
         if self.activations[top].gives {
-            return Err(site.fault(cause));
+            return Plan::Fault(cause, node);
         }
         self.at = self.activations[top].back;
         self.depth = top;
-        Ok(Plan::Went)
+        Plan::Went
     }
 
-    fn give_back(&mut self, site: Site) -> Result<Plan, Fault>
+    fn give_back(&mut self, node: u16) -> Plan
         requires { 0 < self.old.depth }
-        ensures { (view self.new, result) ≡ returned site.node (view self.old) }
+        ensures { (view self.new, result) ≡ returned node (view self.old) }
     {
         let top = self.depth - 1;
         if top == 0 {
-            return Err(site.fault(Cause::BadCode));
+            return Plan::Fault(Cause::BadCode, node);
         }
         if !self.activations[top].gives {
-            return Err(site.fault(Cause::BadCode));
+            return Plan::Fault(Cause::BadCode, node);
         }
-        let value = self.activations[top]
-            .last()
-            .ok_or(site.fault(Cause::BadCode))?;
+        let Some(value) = self.activations[top].last() else {
+            return Plan::Fault(Cause::BadCode, node);
+        };
         if !self.activations[top - 1].free() {
-            return Err(site.fault(Cause::BadCode));
+            return Plan::Fault(Cause::BadCode, node);
         }
         self.at = self.activations[top].back;
         let _ = self.activations[top - 1].push(value);
         self.depth = top;
-        Ok(Plan::Went)
+        Plan::Went
     }
 
-    fn run(&mut self, instruction: Instruction, site: Site, code: &[u64]) -> Result<Plan, Fault>
+    fn run(&mut self, instruction: Instruction, node: u16, next: usize, code: &[u64]) -> Plan
         requires { 0 < self.old.depth }
-        ensures { (view self.new, result) ≡ run instruction site.node site.next code.now (view self.old) }
+        ensures { (view self.new, result) ≡ run instruction node next code.now (view self.old) }
     {
         match instruction {
-            Instruction::Variable(Scope::Main, slot) => self.load_main(slot as usize, site),
-            Instruction::Assign(Scope::Main, slot) => self.store_main(slot as usize, site),
-            Instruction::Call(function) => self.call(function, site, code),
-            Instruction::Perform(function) => self.call(function, site, code),
-            Instruction::Exit => self.leave(Cause::BadCode, site),
-            Instruction::Close => self.leave(Cause::NoReturn, site),
-            Instruction::Return => self.give_back(site),
+            Instruction::Variable(Scope::Main, slot) => self.load_main(slot as usize, node, next),
+            Instruction::Assign(Scope::Main, slot) => self.store_main(slot as usize, node, next),
+            Instruction::Call(function) => self.call(function, node, next, code),
+            Instruction::Perform(function) => self.call(function, node, next, code),
+            Instruction::Exit => self.leave(Cause::BadCode, node),
+            Instruction::Close => self.leave(Cause::NoReturn, node),
+            Instruction::Return => self.give_back(node),
             Instruction::Read(format) => {
                 let free = self.activations[self.depth - 1].free();
-                to_read(free, format, site)
+                to_read(free, format, node, next)
             }
             Instruction::Write(format) => {
                 let last = self.activations[self.depth - 1].last();
-                to_send(last, format, site)
+                to_send(last, format, node, next)
             }
-            _ => self.act(instruction, site),
+            _ => self.act(instruction, node, next),
         }
     }
 
-    fn fetch(&mut self, code: &[u64]) -> Result<Plan, Fault>
+    fn fetch(&mut self, code: &[u64]) -> Plan
         requires { 0 < self.old.depth }
         ensures { (view self.new, result) ≡ fetched code.now (view self.old) }
     {
-        let word = *code.get(self.at).ok_or(NOWHERE)?;
-        let site = Site {
-            node: node_of(word),
-            next: self.at + 1,
-        };
-        let instruction = decode(word).ok_or(site.fault(Cause::BadCode))?;
-        self.run(instruction, site, code)
+        if self.at >= code.len() {
+            return Plan::Fault(Cause::BadCode, 0);
+        }
+        let word = code[self.at];
+        let node = node_of(word);
+        match decode(word) {
+            None => Plan::Fault(Cause::BadCode, node),
+            Some(instruction) => self.run(instruction, node, self.at + 1, code),
+        }
     }
 
-    // Sees to it that main is open.
-    fn start(&mut self, code: &[u64]) -> Result<(), Fault>
-        ensures opens { OnOk result ((fetched code.now (view self.new) ≡ advanced code.now (view self.old)) × (0 < self.new.depth)) }
-        ensures refuses { IfErr result (λ f. ◌≡◌ {A = State × Result Plan Fault} (view self.new, Err f) (advanced code.now (view self.old))) }
+    // Sees to it that main is open; answers whether it is.
+    fn start(&mut self, code: &[u64]) -> bool
+        ensures { MatchBool result ((fetched code.now (view self.new) ≡ advanced code.now (view self.old)) × (0 < self.new.depth))
+            (◌≡◌ {A = State × Plan} (view self.new, Plan.Fault Cause.BadCode 0) (advanced code.now (view self.old))) }
     {
         if self.depth > 0 {
-            return Ok(());
+            return true;
         }
-        let found = main_entry(code).ok_or(NOWHERE)?;
+        let Some(found) = main_entry(code) else {
+            return false;
+        };
         self.activations[0] = open(found, [0; 64], 0);
         self.depth = 1;
         self.at = usize::from(found.address);
-        Ok(())
+        true
     }
 
     // A step as far as no line is needed; the first one opens main.
-    pub fn advance(&mut self, code: &[u64]) -> Result<Plan, Fault>
+    pub fn advance(&mut self, code: &[u64]) -> Plan
         ensures { (view self.new, result) ≡ advanced code.now (view self.old) }
     {
-        self.start(code)?;
-        self.fetch(code)
+        if self.start(code) {
+            self.fetch(code)
+        } else {
+            Plan::Fault(Cause::BadCode, 0)
+        }
     }
 
-    // Takes the opening of main back, if it was opened in this step: then `closed` is where the machine stood before.
-    pub fn undo(&mut self, closed: Option<usize>)
-        ensures { view self.new ≡ undone closed (view self.old) }
+    // Takes the opening of main back, if it was opened in this step.
+    pub fn undo(&mut self, first: bool, at: usize)
+        ensures { view self.new ≡ (if first then state [] at else view self.old) }
     {
-        if let Some(at) = closed {
+        if first {
             self.depth = 0;
             self.at = at;
         }

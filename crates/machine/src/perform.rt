@@ -5,7 +5,7 @@ ghost use Rattle.machine.specs.States.{main_variables};
 ghost use Rattle.machine.specs.Steps.{world, latch_of, outcome_of, stepped, StepLaws, Held};
 
 use crate::message::{compose, find};
-use crate::plan::{Cause, Fault, Latch, Outcome, Plan};
+use crate::plan::{Cause, Latch, Outcome, Plan};
 use crate::state::{Activation, Core, Machine};
 use line::{Line, peek, send_text};
 use number::Reading;
@@ -44,22 +44,22 @@ impl Machine {
     }
 
     // Keeps an end or a fault.
-    fn settle(&mut self, end: Result<Plan, Fault>) -> Outcome
+    fn settle(&mut self, plan: Plan) -> Outcome
         requires { self.old.latch ≡ Latch.Open }
         ensures core { self.new.core ≡ self.old.core }
-        ensures latch { self.new.latch ≡ latch_of end }
-        ensures outcome { result ≡ outcome_of end }
+        ensures latch { self.new.latch ≡ latch_of plan }
+        ensures outcome { result ≡ outcome_of plan }
     {
-        match end {
-            Ok(Plan::Over) => {
+        match plan {
+            Plan::Over => {
                 self.latch = Latch::Ended;
                 Outcome::Ended
             }
-            Err(Fault { cause, node }) => {
+            Plan::Fault(cause, node) => {
                 self.latch = Latch::Failed(cause, node);
                 Outcome::Failed(cause, node)
             }
-            Ok(_) => Outcome::Went,
+            _ => Outcome::Went,
         }
     }
 
@@ -77,31 +77,30 @@ impl Machine {
             Latch::Failed(cause, node) => return Outcome::Failed(cause, node),
             Latch::Open => {}
         }
-        let closed = (self.core.depth == 0).then_some(self.core.at);
+        let first = self.core.depth == 0;
+        let at = self.core.at;
         match self.core.advance(code) {
-            Err(fault) => self.settle(Err(fault)),
-            Ok(Plan::Went) => Outcome::Went,
-            Ok(Plan::Over) => self.settle(Ok(Plan::Over)),
-            Ok(Plan::Read(format, site)) => match find(format, peek(line).as_bytes()) {
+            Plan::Read(format, node, next) => match find(format, peek(line).as_bytes()) {
                 Reading::Wait => {
-                    self.core.undo(closed);
+                    self.core.undo(first, at);
                     Outcome::Waits
                 }
-                Reading::Refused => self.settle(Err(site.fault(Cause::RefusedText))),
+                Reading::Refused => self.settle(Plan::Fault(Cause::RefusedText, node)),
                 Reading::Took { value, count } => {
                     let _ = line.take(count);
-                    let end = self.core.receive(value, site);
-                    self.settle(end)
+                    let plan = self.core.receive(value, node, next);
+                    self.settle(plan)
                 }
             },
-            Ok(Plan::Send(format, value, site)) => {
+            Plan::Send(format, value, node, next) => {
                 if send_text(line, compose(format, value).as_bytes()) {
-                    let end = self.core.release(site);
-                    self.settle(end)
+                    let plan = self.core.release(node, next);
+                    self.settle(plan)
                 } else {
-                    self.settle(Err(site.fault(Cause::NoRoom)))
+                    self.settle(Plan::Fault(Cause::NoRoom, node))
                 }
             }
+            plan => self.settle(plan),
         }
     }
 }

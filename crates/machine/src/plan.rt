@@ -2,7 +2,6 @@
 ghost use Rattle.std.specs.Prelude.{◌≡◌};
 ghost use Rattle.machine.specs.View.{cause_number};
 ghost use Rattle.machine.specs.Acts.{after};
-ghost use Rattle.machine.specs.States.{fault};
 
 use table::Format;
 
@@ -51,40 +50,16 @@ impl Flow {
     }
 }
 
-// Where a word stands: its node, and the address behind it.
-#[derive(Clone, Copy)]
-pub struct Site {
-    pub node: u16,
-    pub next: usize,
-}
-
-// Why a step stops, and the node of its word.
-#[derive(Clone, Copy)]
-pub struct Fault {
-    pub cause: Cause,
-    pub node: u16,
-}
-
-impl Site {
-    // A fault of the word.
-    pub fn fault(self, cause: Cause) -> Fault
-        ensures { result ≡ fault cause self.node }
-    {
-        Fault {
-            cause,
-            node: self.node,
-        }
-    }
-}
-
-// What a step that is no fault comes to as far as no line is needed. A read and a send still have to be performed; they
-// tell their word, and a send its operand.
+// What a step comes to as far as no line is needed. A read and a send still have to be performed; they tell the node
+// and the address behind the word, and a send its operand. It is no `Result<Plan, Fault>`: so written, with faults handed
+// up by `?`, a step took one and a half times as long, longer than the same interpreter in safe Rust.
 #[derive(Clone, Copy)]
 pub enum Plan {
     Went,
     Over,
-    Read(Format, Site),
-    Send(Format, i16, Site),
+    Fault(Cause, u16),
+    Read(Format, u16, usize),
+    Send(Format, i16, u16, usize),
 }
 
 // How a machine has stopped for good, if it has. It is no `Result`: it is a state that is kept, and nothing goes on from it.

@@ -1,5 +1,5 @@
 -- Functions and main: the simulation of whole programs, by induction on the bound.
-use Rattle.std.proofs.Common.{◌≡◌, ℕ, zero, suc, ◌+◌, ◌<◌, ◌≤◌, Bool, true, false, cond, eqb, List, [], ◌∷◌, map, length, get_or, ℤ, pos, Some, None, Option, sym, refl, ap, ◌∙◌, subst, arith, Ok}
+use Rattle.std.proofs.Common.{◌≡◌, ℕ, zero, suc, ◌+◌, ◌<◌, ◌≤◌, Bool, true, false, cond, eqb, List, [], ◌∷◌, map, length, get_or, ℤ, pos, Some, None, Option, sym, refl, ap, ◌∙◌, subst, arith}
 use Rattle.std.specs.List.{slice_get}
 use Rattle.std.proofs.lemmas.Bool.{lt-ltb, ne_eqb, false≢true}
 use Rattle.table.specs.declared.shape.Kind.{Kind}
@@ -7,9 +7,9 @@ use Rattle.code.specs.declared.instruction.Instruction.{Instruction}
 use Rattle.code.specs.declared.instruction.Instruction.TheVariants.{Exit, Return, Close}
 use Rattle.machine.specs.declared.plan.Cause.{Cause}
 use Rattle.machine.specs.declared.plan.Cause.TheVariants.{BadCode, NoReturn}
-use Rattle.machine.specs.declared.plan.Plan.TheVariants.{Went, Over}
+use Rattle.machine.specs.declared.plan.Plan.TheVariants.{Went, Over, Fault}
 use Rattle.machine.specs.View.{Act, State as Machine, state}
-use Rattle.machine.specs.States.{faulty, has_result, left, returned, run}
+use Rattle.machine.specs.States.{has_result, left, returned, run}
 use Rattle.machine.specs.Steps.{World}
 use Rattle.language.specs.Tree.{Signature, Function, Program}
 use Rattle.language.specs.Laws.{◌⊑◌}
@@ -28,15 +28,15 @@ use Rattle.simulation.proofs.Scenes.{From, fit_length, goes_on, fails-here}
 use Rattle.simulation.proofs.Sim.{given, Calls, Entries, sim_b}
 
 return-acts : (p a : ℕ) (x : Act) (v : ℤ) (o : List ℤ) (r : List ℤ) (rs : List (List ℤ)) (f : Frame) (fs : List Frame) → x.gives ≡ true → x.ops ≡ v ∷ o → length r + length f.ops < 64
-    → returned p (state (x ∷ acts (r ∷ rs) (f ∷ fs)) a) ≡ (state (act_with r (record { ops = v ∷ f.ops; gives = f.gives; back = f.back }) ∷ acts rs fs) x.back, Ok Went)
+    → returned p (state (x ∷ acts (r ∷ rs) (f ∷ fs)) a) ≡ (state (act_with r (record { ops = v ∷ f.ops; gives = f.gives; back = f.back }) ∷ acts rs fs) x.back, Went)
 unfolding returned
 return-acts p a x v o r rs f fs e q l = rw (e, q, lt-ltb (length r + length f.ops) 64 l) refl
 
-leave_acts : (i : Cause) (p a : ℕ) (x : Act) (r : List ℤ) (rs : List (List ℤ)) (f : Frame) (fs : List Frame) → x.gives ≡ false → left i p (state (x ∷ acts (r ∷ rs) (f ∷ fs)) a) ≡ (state (act_with r f ∷ acts rs fs) x.back, Ok Went)
+leave_acts : (i : Cause) (p a : ℕ) (x : Act) (r : List ℤ) (rs : List (List ℤ)) (f : Frame) (fs : List Frame) → x.gives ≡ false → left i p (state (x ∷ acts (r ∷ rs) (f ∷ fs)) a) ≡ (state (act_with r f ∷ acts rs fs) x.back, Went)
 unfolding left
 leave_acts i p a x r rs f fs e = rw e refl
 
-lack_acts : (i : Cause) (p a : ℕ) (x : Act) (r : List ℤ) (rs : List (List ℤ)) (f : Frame) (fs : List Frame) → x.gives ≡ true → left i p (state (x ∷ acts (r ∷ rs) (f ∷ fs)) a) ≡ (state (x ∷ acts (r ∷ rs) (f ∷ fs)) a, faulty i p)
+lack_acts : (i : Cause) (p a : ℕ) (x : Act) (r : List ℤ) (rs : List (List ℤ)) (f : Frame) (fs : List Frame) → x.gives ≡ true → left i p (state (x ∷ acts (r ∷ rs) (f ∷ fs)) a) ≡ (state (x ∷ acts (r ∷ rs) (f ∷ fs)) a, Fault i p)
 unfolding left
 lack_acts i p a x r rs f fs e = rw e refl
 
@@ -71,7 +71,7 @@ lacks {code} {c} ks b ra o a p m e h = record { go = λ s out S. by s.callers s 
     by [] s out S q w = absurd w
     by (r ∷ rs) s out S q w =
         fails-here (callee c o ks b ra) h [] s out (ap suc m) S NoReturn
-        (subst (λ (z : List (List ℤ)). left NoReturn p (state (top_act [] (callee c o ks b ra) s ∷ acts z (callee c o ks b ra).frames) a) ≡ (state (top_act [] (callee c o ks b ra) s ∷ acts z (callee c o ks b ra).frames) a, faulty NoReturn p)) (sym q)
+        (subst (λ (z : List (List ℤ)). left NoReturn p (state (top_act [] (callee c o ks b ra) s ∷ acts z (callee c o ks b ra).frames) a) ≡ (state (top_act [] (callee c o ks b ra) s ∷ acts z (callee c o ks b ra).frames) a, Fault NoReturn p)) (sym q)
         (lack_acts NoReturn p a (top_act [] (callee c o ks b ra) s) r rs (record { ops = o; gives = c.gives; back = c.back }) c.frames e))
 
 -- a body's end
@@ -97,7 +97,7 @@ used_up : (code : List ℕ) (j d : ℕ) (w : World) → j ≤ 0 → Sim code j d
 used_up code j d w l =
     record { fwd = λ n t q. tt; bwd = λ t q. (0, subst (λ (u : ℕ). machine_report code u w ⊑ running) {x = 0} {y = t} (omega arith) (rw (nothing code w) tt)) }
 
-ends_alone : (x : Cause) (p a : ℕ) (y : Act) → left x p (state (y ∷ []) a) ≡ (state (y ∷ []) a, Ok Over)
+ends_alone : (x : Cause) (p a : ℕ) (y : Act) → left x p (state (y ∷ []) a) ≡ (state (y ∷ []) a, Over)
 unfolding left
 ends_alone x p a y = refl
 
@@ -149,7 +149,7 @@ module _ (code : List ℕ) (m : Function) (fs : List Function) (fine : FineOther
       by : (cs : List (List ℤ)) (s : State) (out : List ℕ) → Shape main_scene s → s.callers ≡ cs → RowsFit [] cs → Sim code j (suc d) (λ n. stopped at_end s) (world_at a [] main_scene s out)
       by [] s out S q w =
           finishes code (top_act [] main_scene s) (acts s.callers []) a i p h s.waiting out s.room (machine_at a [] main_scene s) s
-          (runs _ ∙ subst (λ (z : List (List ℤ)). left x p (state (top_act [] main_scene s ∷ acts z []) a) ≡ (state (top_act [] main_scene s ∷ acts z []) a, Ok Over)) (sym q) (ends_alone x p a (top_act [] main_scene s)))
+          (runs _ ∙ subst (λ (z : List (List ℤ)). left x p (state (top_act [] main_scene s ∷ acts z []) a) ≡ (state (top_act [] main_scene s ∷ acts z []) a, Over)) (sym q) (ends_alone x p a (top_act [] main_scene s)))
           (mains a [] main_scene s refl S)
       by (r ∷ rs) s out S q w = absurd w
 

@@ -1,12 +1,10 @@
 -- The simulation of a whole program, from the machine's first step on.
-use Rattle.std.proofs.Common.{◌≡◌, ℕ, zero, suc, ◌-◌, ◌<◌, max, false, List, [], ◌∷◌, length, None, sym, refl, ap, ◌∙◌, subst, arith, Ok, Err, Result}
+use Rattle.std.proofs.Common.{◌≡◌, ℕ, zero, suc, ◌-◌, ◌<◌, max, false, List, [], ◌∷◌, length, None, sym, refl, ap, ◌∙◌, subst, arith}
 use Rattle.std.specs.List.{AllByRecursion}
 use Rattle.number.specs.declared.text.Reading.{Reading}
 use Rattle.number.specs.declared.text.Reading.TheVariants.{Wait, Refused, Took}
 use Rattle.machine.specs.declared.plan.Plan.{Plan}
-use Rattle.machine.specs.declared.plan.Fault.{Fault}
-use Rattle.machine.specs.declared.plan.Site.{Site}
-use Rattle.machine.specs.declared.plan.Plan.TheVariants.{Went, Over, Read, Send}
+use Rattle.machine.specs.declared.plan.Plan.TheVariants.{Went, Over, Fault, Read, Send}
 use Rattle.machine.specs.declared.plan.Latch.TheVariants.{Open}
 use Rattle.machine.specs.declared.plan.Outcome.{Outcome}
 use Rattle.machine.specs.View.{Act, State as Machine, state, resting}
@@ -43,24 +41,24 @@ module _ (a b s : Machine) (ws ss : List ℕ) (r : ℕ) (R : World → Report) w
   abbrev of : Machine → World × Outcome → Report
   of m x = reported (world m Open ws ss r) x.0 (R x.0) x.1
 
-  same_read : (at : Site) (q : _) (f : Reading) → looks q ws ≡ f → of a (performed a s (Ok (Read q at)) ws ss r) ≡ of b (performed b s (Ok (Read q at)) ws ss r)
-  same_read at q Wait e = rw e refl
-  same_read at q Refused e = rw e refl
-  same_read at q (Took v n) e = rw e refl
+  same_read : (node at : ℕ) (q : _) (f : Reading) → looks q ws ≡ f → of a (performed a s (Read q node at) ws ss r) ≡ of b (performed b s (Read q node at) ws ss r)
+  same_read node at q Wait e = rw e refl
+  same_read node at q Refused e = rw e refl
+  same_read node at q (Took v n) e = rw e refl
 
-  same_first : (d : Result Plan Fault) → of a (performed a s d ws ss r) ≡ of b (performed b s d ws ss r)
-  same_first (Ok Went) = refl
-  same_first (Ok Over) = refl
-  same_first (Err x) = refl
-  same_first (Ok (Read q at)) = same_read at q (looks q ws) refl
-  same_first (Ok (Send q v at)) = refl
+  same_first : (d : Plan) → of a (performed a s d ws ss r) ≡ of b (performed b s d ws ss r)
+  same_first Went = refl
+  same_first Over = refl
+  same_first (Fault c n) = refl
+  same_first (Read q node at) = same_read node at q (looks q ws) refl
+  same_first (Send q v node at) = refl
 
 first_report : (code : List ℕ) (x : Act) (xs : List Act) (p : ℕ) (ws ss : List ℕ) (r : ℕ) → advanced code resting ≡ advanced code (state (x ∷ xs) p) → (t : ℕ) → machine_report code t (armed ws ss r) ≡ machine_report code t (world (state (x ∷ xs) p) Open ws ss r)
 unfolding machine_report stepped
 first_report code x xs p ws ss r e zero = refl
 first_report code x xs p ws ss r e (suc t) =
     let m : Machine = state (x ∷ xs) p in
-    ap (λ (z : Machine × Result Plan Fault). of resting m z.0 ws ss r (machine_report code t) resting (performed resting z.0 z.1 ws ss r)) e
+    ap (λ (z : Machine × Plan). of resting m z.0 ws ss r (machine_report code t) resting (performed resting z.0 z.1 ws ss r)) e
     ∙ same_first resting m (advanced code m).0 ws ss r (machine_report code t) (advanced code m).1
 
 opened_is : (g : Signature) (h : ℕ) → g.result ≡ None → g.parameters ≡ 0 → opened (entry_for g h) ≡ state (record { vars = fill (length g.variables) []; ops = []; gives = false; back = 0 } ∷ []) h

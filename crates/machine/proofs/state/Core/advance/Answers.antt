@@ -1,10 +1,5 @@
-use Rattle.std.proofs.Common.{◌≡◌, Err, ◌∙◌, rules}
+use Rattle.std.proofs.Common.{◌∙◌}
 use Rattle.machine.proofs.state.Core.advance.Goals as goal
 
-pub returns-in_err-start : goal.returns-in_err-start
-returns-in_err-start c =
-    let r : c.from_residual.result ≡ Err c.in_err-start.field-0.0 = search rules in
-    rw r c.in_err-start.ensures.refuses
-
-pub returns : goal.returns
-returns c = c.fetch.ensures ∙ c.in_ok-start.ensures.opens.0
+pub returns-then-start : goal.returns-then-start
+returns-then-start c = c.fetch.ensures ∙ c.if-start.ensures.0

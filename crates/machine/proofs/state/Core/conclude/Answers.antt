@@ -1,9 +1,7 @@
-use Rattle.std.proofs.Common.{◌≡◌, Ok, refl, rules}
+use Rattle.std.proofs.Common.{refl}
 use Rattle.machine.specs.View.{view}
 use Rattle.machine.proofs.state.Core.conclude.Goals as goal
 
-pub returns : goal.returns
+pub returns-in-Ok : goal.returns-in-Ok
 unfolding view
-returns c =
-    let e : c.args.effect ≡ Ok c.in_ok-flow.flow = search rules in
-    rw (e, c.after-self.ensures) refl
+returns-in-Ok c = rw (c.in-Ok.is, c.after-self.ensures) refl

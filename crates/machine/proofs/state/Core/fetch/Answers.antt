@@ -1,32 +1,19 @@
-use Rattle.std.proofs.Common.{◌≡◌, ◌<◌, ◌≤◌, Some, None, length, get_or, ◌∙◌, rules}
-use Rattle.code.specs.Fields.{node_of}
-use Rattle.code.specs.Word.{instruction_of}
+use Rattle.std.proofs.Common.{Some, None, ◌∙◌}
 use Rattle.machine.specs.View.{view}
-use Rattle.machine.specs.States.{faulty}
-use Rattle.machine.specs.declared.plan.Cause.TheVariants.{BadCode}
 use Rattle.machine.proofs.Tables.{fetch-out, fetch_in}
 use Rattle.machine.proofs.state.Core.fetch.Goals as goal
 
-pub returns-in_err-word : goal.returns-in_err-word
+pub returns-then-self-code : goal.returns-then-self-code
 unfolding view
-returns-in_err-word c =
-    let r : c.from_residual.result ≡ faulty BadCode 0 = search rules in
-    let h : length c.args.code.now ≤ c.args.self.now.at = search rules in
-    rw r (fetch-out c.args.code.now (view c.args.self.now) h)
+returns-then-self-code c =
+    fetch-out c.args.code.now (view c.args.self.now) c.if-self-code.true
 
-pub returns-in_err-instruction : goal.returns-in_err-instruction
+pub returns-in-None : goal.returns-in-None
 unfolding view
-returns-in_err-instruction c =
-    let r : c.from_residual-in_err-instruction.result ≡ faulty BadCode c.node_of.result = search rules in
-    let h : c.args.self.now.at < length c.args.code.now = search rules in
-    let n : c.node_of.result ≡ node_of (get_or c.args.code.now c.args.self.now.at 0) = search rules in
-    let e : None ≡ instruction_of (get_or c.args.code.now c.args.self.now.at 0) = search rules in
-    rw r (fetch_in c.args.code.now (view c.args.self.now) None c.node_of.result h e n)
+returns-in-None c =
+    fetch_in c.args.code.now (view c.args.self.now) None c.node_of-node.result c.if-self-code.false c.in-None.ensures.value c.node_of-node.ensures
 
-pub returns : goal.returns
+pub returns-in-Some : goal.returns-in-Some
 unfolding view
-returns c =
-    let h : c.args.self.now.at < length c.args.code.now = search rules in
-    let n : c.node_of.result ≡ node_of (get_or c.args.code.now c.args.self.now.at 0) = search rules in
-    let e : Some c.in_ok-instruction.instruction ≡ instruction_of (get_or c.args.code.now c.args.self.now.at 0) = search rules in
-    c.run.ensures ∙ fetch_in c.args.code.now (view c.args.self.now) (Some c.in_ok-instruction.instruction) c.node_of.result h e n
+returns-in-Some c =
+    c.run.ensures ∙ fetch_in c.args.code.now (view c.args.self.now) (Some c.in-Some.instruction) c.node_of-node.result c.if-self-code.false c.in-Some.ensures.value c.node_of-node.ensures

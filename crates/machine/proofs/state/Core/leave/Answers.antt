@@ -7,13 +7,13 @@ use Rattle.machine.proofs.state.Core.leave.Goals as goal
 pub returns-then-top-eq0 : goal.returns-then-top-eq0
 unfolding view
 returns-then-top-eq0 c =
-    leave_main c.args.self.now.activations c.args.self.now.depth c.args.self.now.at c.args.site.node c.args.cause c.requires c.if-top-eq0.true
+    leave_main c.args.self.now.activations c.args.self.now.depth c.args.self.now.at c.args.node c.args.cause c.requires c.if-top-eq0.true
 
 pub returns-then-self-top : goal.returns-then-self-top
 unfolding view seen
 returns-then-self-top c =
     let l : c.args.self.now.depth ≤ length c.args.self.now.activations = omega arith in
-    rw c.fault.ensures (leave_gives _ _ _ _ 0 c.requires l c.if-top-eq0.false c.index-self-top.result c.index-self-top.result c.args.cause c.if-self-top.true)
+    leave_gives _ _ _ _ 0 c.requires l c.if-top-eq0.false c.index-self-top.result c.index-self-top.result c.args.cause c.if-self-top.true
 
 pub returns : goal.returns
 unfolding view seen

@@ -2,6 +2,7 @@ use Rattle.std.proofs.Common.{refl}
 use Rattle.machine.specs.View.{view, tops}
 use Rattle.machine.proofs.state.Core.undo.Goals as goal
 
-pub returns-in-Some : goal.returns-in-Some
+pub returns-then-first : goal.returns-then-first
 unfolding view tops
-returns-in-Some c = rw c.in-Some.is refl
+returns-then-first c =
+    rw c.if-first.true refl
