@@ -4,9 +4,10 @@ use Rattle.std.proofs.lemmas.Bool.{and_parts}
 use Rattle.std.proofs.lemmas.Option.{cond_some}
 use Rattle.std.specs.Option.{ok_or}
 use Rattle.table.specs.Flow.{onward}
+use Rattle.table.specs.Kinds.{operates}
 use Rattle.table.specs.View.{View, node_at}
 use Rattle.table.specs.declared.shape.Kind.{Kind}
-use Rattle.table.specs.declared.shape.Kind.TheVariants.{Byte}
+use Rattle.table.specs.declared.shape.Kind.TheVariants.{Int, Byte}
 use Rattle.table.specs.declared.shape.Binary.{Binary}
 use Rattle.table.specs.declared.shape.Binary.TheVariants.{Add, Sub, Mul, Div, Rem, ByteAnd, ByteOr}
 use Rattle.table.specs.declared.shape.Expression.{Expression}
@@ -17,7 +18,7 @@ use Rattle.language.specs.Tree.{Expr, Args, constant, variable, unary, binary, c
 use Rattle.language.specs.Listing.{Placed, list_e, list_a}
 use Rattle.language.specs.Measures.{kind_of, operand_kind, unary_kind, unary_words, levels_e, levels_a, height_e, height_a, words_e, words_a}
 use Rattle.language.specs.Rules.{Env, slot_kind, called, parameter_kinds, Operates, FineE, FineA}
-use Rattle.walk.specs.Walk.{arrived, as_value, called_at, with_result, judged, same_kind, operates, found, size, sized, stacked, no_arguments, added, args_from, fitting, expr_at, expr_from}
+use Rattle.walk.specs.Walk.{arrived, as_value, called_at, with_result, judged, same_kind, found, size, sized, stacked, no_arguments, added, args_from, fitting, expr_at, expr_from}
 use Rattle.walk.specs.declared.fault.CheckFault.TheVariants.{Nesting, Child, Variable as NoVariable, Function as NoFunction}
 use Rattle.walk.specs.declared.found.Found.{Found}
 use Rattle.walk.specs.declared.found.Size.{Size}
@@ -122,8 +123,10 @@ operates_ok Sub k h = tt
 operates_ok Mul k h = tt
 operates_ok Div k h = tt
 operates_ok Rem k h = tt
-operates_ok ByteAnd k h = sym (same_kind_lem Byte k h)
-operates_ok ByteOr k h = sym (same_kind_lem Byte k h)
+operates_ok ByteAnd Int h = sym (same_kind_lem Byte Int h)
+operates_ok ByteOr Int h = sym (same_kind_lem Byte Int h)
+operates_ok ByteAnd Byte h = refl
+operates_ok ByteOr Byte h = refl
 
 operates_is : (b : Binary) (k : Kind) → Operates b k → operates b k ≡ true
 operates_is Add k h = refl
@@ -131,8 +134,8 @@ operates_is Sub k h = refl
 operates_is Mul k h = refl
 operates_is Div k h = refl
 operates_is Rem k h = refl
-operates_is ByteAnd k h = ap (λ q. same_kind Byte q) h
-operates_is ByteOr k h = ap (λ q. same_kind Byte q) h
+operates_is ByteAnd k h = ap (λ q. operates ByteAnd q) h
+operates_is ByteOr k h = ap (λ q. operates ByteOr q) h
 
 module _ (v : View) (e : Env) (k : ℕ) (ih : (i : ℕ) (f : Found) (j : ℕ) → expr_from v e k i ≡ Ok (f, j) → StandsE v e k i f j) (i : ℕ) (f : Found) (j : ℕ) where
   at-sound : (s : Expression) → Came v (suc k) i (Value s) → expr_at e (expr_from v e k) i s ≡ Ok (f, j) → StandsE v e (suc k) i f j

@@ -1,10 +1,10 @@
 -- The table of a program, byte by byte.
-use Rattle.std.specs.Prelude.{ℕ, ◌+◌, ◌-◌, ◌*◌, ◌/◌, ◌%◌, ◌^◌, List, [], ◌∷◌, ◌++◌, length, Some, None, Option}
+use Rattle.std.specs.Prelude.{ℕ, ◌+◌, ◌-◌, ◌*◌, ◌/◌, ◌%◌, ◌^◌, List, [], ◌∷◌, ◌++◌, length}
 use Rattle.std.specs.List.{flat_map}
 use Rattle.table.specs.Shapes.{node_of}
+use Rattle.table.specs.Numbers.{kind_number, result_number}
 use Rattle.table.specs.declared.record.Node.{Node}
 use Rattle.table.specs.declared.shape.Kind.{Kind}
-use Rattle.table.specs.declared.shape.Kind.TheVariants.{Int, Byte}
 use Rattle.language.specs.Tree.{Signature, Program}
 use Rattle.language.specs.Listing.{Placed, list_p}
 use Rattle.language.specs.Rules.{signatures}
@@ -12,15 +12,6 @@ use Rattle.language.specs.Rules.{signatures}
 -- version 1 (4 bits), functions (6), nodes (14)
 abbrev pub header_bytes : ℕ → ℕ → List ℕ
 header_bytes f n = (16 + f / 4) ∷ (f % 4 * 64 + n / 256) ∷ (n % 256) ∷ []
-
-abbrev pub result_number : Option Kind → ℕ
-result_number None = 0
-result_number (Some Int) = 1
-result_number (Some Byte) = 2
-
-abbrev pub kind_number : Kind → ℕ
-kind_number Int = 0
-kind_number Byte = 1
 
 -- one bit for each variable from the most significant of w bits on
 abbrev pub kind_bits : ℕ → List Kind → ℕ

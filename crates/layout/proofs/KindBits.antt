@@ -6,7 +6,8 @@ use Rattle.std.proofs.lemmas.Bool.Decides.{nat_tests}
 use Rattle.table.specs.Fields.{kind_bit}
 use Rattle.table.specs.declared.shape.Kind.{Kind}
 use Rattle.table.specs.declared.shape.Kind.TheVariants.{Int, Byte}
-use Rattle.language.specs.Layout.{kind_number, kind_bits}
+use Rattle.table.specs.Numbers.{kind_number}
+use Rattle.language.specs.Layout.{kind_bits}
 
 -- the kinds of n slots, from the most significant of the low w bits of K on
 abbrev kinds_in : ℕ → ℕ → ℕ → List Kind

@@ -7,7 +7,8 @@ use Rattle.table.specs.Fields.{byte_at, record_place, result_field, parameter_fi
 use Rattle.table.specs.declared.record.Function.{Function}
 use Rattle.table.specs.declared.shape.Kind.{Kind}
 use Rattle.table.specs.declared.shape.Kind.TheVariants.{Int, Byte}
-use Rattle.language.specs.Layout.{result_number, record_bytes}
+use Rattle.table.specs.Numbers.{result_number}
+use Rattle.language.specs.Layout.{record_bytes}
 use Rattle.layout.specs.Stored.{Bytes}
 use Rattle.layout.proofs.Pieces.{At, at_each}
 

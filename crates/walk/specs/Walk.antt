@@ -6,10 +6,9 @@ use Rattle.table.specs.Flow.{onward}
 use Rattle.table.specs.Shapes.{shape_of}
 use Rattle.table.specs.Sorts.{expression_in, condition_in, statement_in, block_in}
 use Rattle.table.specs.View.{View, node_at}
+use Rattle.table.specs.Kinds.{operates}
 use Rattle.table.specs.declared.shape.Kind.{Kind}
 use Rattle.table.specs.declared.shape.Kind.TheVariants.{Int, Byte}
-use Rattle.table.specs.declared.shape.Binary.{Binary}
-use Rattle.table.specs.declared.shape.Binary.TheVariants.{Add, Sub, Mul, Div, Rem, ByteAnd, ByteOr}
 use Rattle.table.specs.declared.shape.Expression.{Expression}
 use Rattle.table.specs.declared.shape.Expression.TheVariants.{Constant, Variable as Slot, Unary as OfOne, Binary as OfTwo, Call, Read}
 use Rattle.table.specs.declared.shape.Condition.{Condition}
@@ -66,16 +65,6 @@ is_int Byte = false
 abbrev pub same_kind : Kind → Kind → Bool
 same_kind Int k = is_int k
 same_kind Byte k = not (is_int k)
-
--- whether an operator takes operands of a kind
-abbrev pub operates : Binary → Kind → Bool
-operates Add k = true
-operates Sub k = true
-operates Mul k = true
-operates Div k = true
-operates Rem k = true
-operates ByteAnd k = not (is_int k)
-operates ByteOr k = not (is_int k)
 
 -- Sizes.
 abbrev pub size : ℕ → ℕ → Size

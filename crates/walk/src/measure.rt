@@ -1,12 +1,13 @@
 // What a node makes of what was found of its children. The kinds of the children are judged first.
 ghost use Rattle.std.specs.Prelude.{◌≡◌, ◌+◌, ◌<◌, max, ◌&&◌};
 ghost use Rattle.table.specs.Flow.{onward};
+ghost use Rattle.table.specs.Kinds.{operates};
 ghost use Rattle.language.specs.Measures.{operand_kind, unary_kind, unary_words};
-ghost use Rattle.walk.specs.Walk.{found, size, sized, stacked, beside, topped, judged, same_kind, operates, needed, added, fitting};
+ghost use Rattle.walk.specs.Walk.{found, size, sized, stacked, beside, topped, judged, same_kind, needed, added, fitting};
 
 use crate::fault::CheckFault;
 use crate::found::{Found, Size};
-use crate::operators::{operand_kind, takes_kind, unary_kind, unary_words};
+use crate::operators::{operand_kind, unary_kind, unary_words};
 use table::{Binary, Kind, Unary};
 
 // A node that gives a value of that kind and has no children.
@@ -67,7 +68,7 @@ pub(crate) fn operation_on_two(
     requires { (b.size.height < 65535) × (a.size.words + b.size.words < 65535) }
     ensures { result ≡ judged at (same_kind a.kind b.kind && operates operator a.kind) (sized a.kind (stacked a b), next) }
 {
-    if a.kind != b.kind || !takes_kind(operator, a.kind) {
+    if a.kind != b.kind || !operator.takes(a.kind) {
         return Err(CheckFault::Child(at));
     }
     let found = Found {

@@ -1,9 +1,8 @@
 // What formats and operators say of kinds and words.
 ghost use Rattle.std.specs.Prelude.{◌≡◌};
 ghost use Rattle.language.specs.Measures.{format_kind, operand_kind, unary_kind, unary_words};
-ghost use Rattle.walk.specs.Walk.{operates};
 
-use table::{Binary, Format, Kind, Unary};
+use table::{Format, Kind, Unary};
 
 // The kind that a read of a format gives, and that a write of it takes.
 pub fn format_kind(format: Format) -> Kind
@@ -42,15 +41,5 @@ pub fn unary_words(operator: Unary) -> u16
     match operator {
         Unary::Plus | Unary::Extend => 0,
         Unary::Minus | Unary::ByteNot | Unary::Shrink => 1,
-    }
-}
-
-// Whether an operator between two operands takes operands of a kind.
-pub(crate) fn takes_kind(operator: Binary, kind: Kind) -> bool
-    ensures { result ≡ operates operator kind }
-{
-    match operator {
-        Binary::ByteAnd | Binary::ByteOr => kind == Kind::Byte,
-        _ => true,
     }
 }
