@@ -3,34 +3,36 @@ use code::{Entry, Instruction, encode, encode_entry};
 use line::Line;
 use machine::{Machine, Outcome};
 
-// The numbers of the answers: still going, waits, ended; a fault by its cause.
-pub const GOES: u8 = 0;
+// What the last step came to; a fault by its cause's number, and its node.
+#[derive(Clone, Copy, Debug, PartialEq, Eq)]
+pub enum Answer {
+    Goes,
+    Waits,
+    Ended,
+    Fault(u8, u16),
+}
 
-pub const WAITS: u8 = 1;
-
-pub const ENDED: u8 = 2;
-
-// The answer of a step: its number, and a fault's node.
-fn numbered(outcome: Outcome) -> (u8, u16) {
-    match outcome {
-        Outcome::Went => (GOES, 0),
-        Outcome::Waits => (WAITS, 0),
-        Outcome::Ended => (ENDED, 0),
-        Outcome::Failed(cause, node) => (cause.number(), node),
+impl From<Outcome> for Answer {
+    fn from(outcome: Outcome) -> Answer {
+        match outcome {
+            Outcome::Went => Answer::Goes,
+            Outcome::Waits => Answer::Waits,
+            Outcome::Ended => Answer::Ended,
+            Outcome::Failed(cause, node) => Answer::Fault(cause.number(), node),
+        }
     }
 }
 
 // At most so many steps of a new machine: the answer of the last one.
-pub fn run<L: Line>(words: &[u64], line: &mut L, most: usize) -> (u8, u16) {
+pub fn run<L: Line>(words: &[u64], line: &mut L, most: usize) -> Answer {
     let mut machine = Machine::new();
-    let mut last = (GOES, 0);
     for _ in 0..most {
-        last = numbered(machine.step(words, line));
-        if last.0 != GOES {
-            return last;
+        let answer = Answer::from(machine.step(words, line));
+        if answer != Answer::Goes {
+            return answer;
         }
     }
-    last
+    Answer::Goes
 }
 
 // An entry word without result and parameters.

@@ -1,19 +1,19 @@
 // Small codes and what they come to.
-use crate::runs::{ENDED, GOES, WAITS, entry, run, word};
+use crate::runs::{Answer, entry, run, word};
 use code::{Entry, Instruction, Jump, encode_entry};
 use line::{Line, Ring, Tape};
 use std::process::Abort;
 use std::test::Fail;
 use table::{Binary, Format, Kind, Scope};
 
-// Words, and the answer of the first steps, with a fault's node.
+// Words, and the answer of the first steps.
 #[derive(Drop)]
-struct Row<'a>(&'a [u64], u8, u16);
+struct Row<'a>(&'a [u64], Answer);
 
 fn play(rt: &impl Abort, rows: &[Row]) {
     for row in rows {
         let mut ring = Ring::new();
-        assert_eq!(rt; run(row.0, &mut ring, 100), (row.1, row.2));
+        assert_eq!(rt; run(row.0, &mut ring, 100), row.1);
     }
 }
 
@@ -28,35 +28,43 @@ fn bad_code(rt: HostRuntime) {
     play(
         &rt,
         &[
-            Row(&[], 60, 0),
-            Row(&[1], 60, 0),
-            Row(&[gives, word(Instruction::Close, 3)], 60, 0),
-            Row(&[entry(0, 1)], 60, 0),
-            Row(&[entry(0, 1), word(Instruction::Close, 3)], ENDED, 0),
-            Row(&[entry(0, 1), 0xFF00_0007_0000_0000], 60, 7),
-            Row(&[entry(0, 1), word(Instruction::Close, 3) | 1], 60, 3),
-            Row(&[entry(0, 1), word(Instruction::Minus, 5)], 60, 5),
+            Row(&[], Answer::Fault(60, 0)),
+            Row(&[1], Answer::Fault(60, 0)),
+            Row(&[gives, word(Instruction::Close, 3)], Answer::Fault(60, 0)),
+            Row(&[entry(0, 1)], Answer::Fault(60, 0)),
+            Row(&[entry(0, 1), word(Instruction::Close, 3)], Answer::Ended),
+            Row(&[entry(0, 1), 0xFF00_0007_0000_0000], Answer::Fault(60, 7)),
+            Row(
+                &[entry(0, 1), word(Instruction::Close, 3) | 1],
+                Answer::Fault(60, 3),
+            ),
+            Row(
+                &[entry(0, 1), word(Instruction::Minus, 5)],
+                Answer::Fault(60, 5),
+            ),
             Row(
                 &[entry(1, 1), word(Instruction::Variable(Scope::Own, 1), 5)],
-                60,
-                5,
+                Answer::Fault(60, 5),
             ),
             Row(
                 &[entry(1, 1), word(Instruction::Assign(Scope::Own, 0), 5)],
-                60,
-                5,
+                Answer::Fault(60, 5),
             ),
-            Row(&[entry(0, 1), word(Instruction::Call(1), 5)], 60, 5),
-            Row(&[entry(0, 1), word(Instruction::Return, 5)], 60, 5),
+            Row(
+                &[entry(0, 1), word(Instruction::Call(1), 5)],
+                Answer::Fault(60, 5),
+            ),
+            Row(
+                &[entry(0, 1), word(Instruction::Return, 5)],
+                Answer::Fault(60, 5),
+            ),
             Row(
                 &[entry(0, 1), word(Instruction::Jump(Jump::Loop, 9), 5)],
-                60,
-                0,
+                Answer::Fault(60, 0),
             ),
             Row(
                 &[entry(0, 1), word(Instruction::Jump(Jump::Loop, 1), 5)],
-                GOES,
-                0,
+                Answer::Goes,
             ),
             // an exit in a function with a result, and its closing word
             Row(
@@ -67,8 +75,7 @@ fn bad_code(rt: HostRuntime) {
                     0,
                     word(Instruction::Exit, 6),
                 ],
-                60,
-                6,
+                Answer::Fault(60, 6),
             ),
             Row(
                 &[
@@ -78,8 +85,7 @@ fn bad_code(rt: HostRuntime) {
                     0,
                     word(Instruction::Close, 6),
                 ],
-                63,
-                6,
+                Answer::Fault(63, 6),
             ),
         ],
     );
@@ -92,9 +98,9 @@ fn zero_divisors(rt: HostRuntime) {
     play(
         &rt,
         &[
-            Row(&[entry(0, 1), zero, zero, divide], 61, 4),
+            Row(&[entry(0, 1), zero, zero, divide], Answer::Fault(61, 4)),
             // a missing operand goes ahead
-            Row(&[entry(0, 1), zero, divide], 60, 4),
+            Row(&[entry(0, 1), zero, divide], Answer::Fault(60, 4)),
         ],
     );
 }
@@ -108,10 +114,10 @@ fn cells(rt: HostRuntime) -> Result<(), Fail> {
         words.push(word(Instruction::Constant(Kind::Byte, 255), node))?;
     }
     let mut ring = Ring::new();
-    assert_eq!(rt; run(words.as_slice(), &mut ring, 32), (GOES, 0));
-    assert_eq!(rt; run(words.as_slice(), &mut ring, 33), (60, 0));
+    assert_eq!(rt; run(words.as_slice(), &mut ring, 32), Answer::Goes);
+    assert_eq!(rt; run(words.as_slice(), &mut ring, 33), Answer::Fault(60, 0));
     words.push(word(Instruction::Constant(Kind::Byte, 255), 32))?;
-    assert_eq!(rt; run(words.as_slice(), &mut ring, 33), (60, 32));
+    assert_eq!(rt; run(words.as_slice(), &mut ring, 33), Answer::Fault(60, 32));
     Ok(())
 }
 
@@ -121,8 +127,8 @@ fn activations(rt: HostRuntime) {
     let call = word(Instruction::Perform(1), 3);
     let words = [entry(0, 2), entry(0, 2), call];
     let mut ring = Ring::new();
-    assert_eq!(rt; run(&words, &mut ring, 31), (GOES, 0));
-    assert_eq!(rt; run(&words, &mut ring, 32), (62, 3));
+    assert_eq!(rt; run(&words, &mut ring, 31), Answer::Goes);
+    assert_eq!(rt; run(&words, &mut ring, 32), Answer::Fault(62, 3));
 }
 
 // Writes -7 where there is room for it, and nothing where there is not; reads only when enough bytes wait.
@@ -138,9 +144,9 @@ fn lines(rt: HostRuntime) {
     let mut input = [0; 4];
     let mut output = [0; 2];
     let mut tape = Tape::new(&mut input, &mut output);
-    assert_eq!(rt; run(&words, &mut tape, 10), (ENDED, 0));
+    assert_eq!(rt; run(&words, &mut tape, 10), Answer::Ended);
     assert_eq!(rt; tape.sent_len(), 2);
-    assert_eq!(rt; run(&words, &mut tape, 10), (65, 1));
+    assert_eq!(rt; run(&words, &mut tape, 10), Answer::Fault(65, 1));
     assert_eq!(rt; tape.sent_len(), 2);
     let echo = [
         entry(1, 1),
@@ -148,9 +154,9 @@ fn lines(rt: HostRuntime) {
         word(Instruction::Assign(Scope::Own, 0), 1),
         word(Instruction::Close, 0),
     ];
-    assert_eq!(rt; run(&echo, &mut tape, 10), (WAITS, 0));
+    assert_eq!(rt; run(&echo, &mut tape, 10), Answer::Waits);
     assert!(rt; tape.feed(65).is_ok());
-    assert_eq!(rt; run(&echo, &mut tape, 10), (ENDED, 0));
+    assert_eq!(rt; run(&echo, &mut tape, 10), Answer::Ended);
     assert_eq!(rt; tape.waiting_len(), 0);
 }
 
