@@ -25,7 +25,8 @@ fn node_as<S: TryFrom<Shape, Error = WrongSort>>(body: &Body, at: u16, left: u8)
     S::try_from(shape_at(body, at, left)?).ok()
 }
 
-// The expression at a node.
+// The expression at a node. Each sort has a tree of its own and so a law of its own: this function and the three below
+// are `node_as` with that law, and one generic clause for the four would need a trait with the four laws, no plainer.
 pub(crate) fn value_at(body: &Body, at: u16, left: u8) -> Option<Expression>
     ensures tree { expr_in body.now left at ≡ expr_shaped body.now left at result }
     ensures there { OnSome result (IsThere body.now left at) }
