@@ -6,6 +6,7 @@ ghost use Rattle.code.specs.Word.{sense_of, constant_of, binary_of, compare_of, 
 use crate::instruction::{Instruction, Jump};
 use table::{Binary, Comparison, Format, Kind, Scope};
 
+// The sense of a jump. A conversion of std's own types is not for this crate to write, so it is a function.
 fn sense_of(aux: u8) -> Option<bool>
     ensures { result ≡ sense_of aux }
 {

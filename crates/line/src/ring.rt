@@ -47,6 +47,7 @@ fn wrap(i: usize) -> usize
     i & (INBOX - 1)
 }
 
+// What is sent goes as on a tape, with the ring's own fields: a function for both would take them all and be no plainer.
 impl Line for Ring {
     ghost waiting = { λ t. around t.inbox t.first t.count };
 

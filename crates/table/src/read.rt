@@ -136,7 +136,7 @@ impl Function {
 }
 
 impl TableFault {
-    // The refusal's number and the place that it tells.
+    // The refusal's number and the place that it tells: a method, since a pair made by From would not say what it is.
     pub fn told(&self) -> (u8, usize)
         ensures { result ≡ told_of_table self.now }
     {

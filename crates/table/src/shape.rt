@@ -84,7 +84,8 @@ pub enum Condition {
 }
 
 // A node that does something. The number of an assignment is its slot, that of a `Perform`, a call without
-// result, its function, and that of a loop, a break or a continue a loop's name, with 0 for no name.
+// result, its function, and that of a loop, a break or a continue a loop's name, with 0 for no name. A name is the
+// table's number, 0 too, and no Option: it is compared and written as it is, and taken apart it would be no plainer.
 #[derive(Clone, Copy)]
 pub enum Statement {
     Skip,

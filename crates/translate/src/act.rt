@@ -31,7 +31,8 @@ fn value_then(body: &Body, at: u16, left: u8, own: Instruction, out: &mut Writer
     next
 }
 
-// The address behind the statement at a node, whose words are to be written next.
+// The address behind the statement at a node, whose words are to be written next. A condition has a function of its own
+// (`jump.rt`): they count by other functions under other definitions, and one over both would be no plainer.
 fn behind(body: &Body, at: u16, left: u8, out: &Writer) -> u32
     requires { HasRoom out.now (words_s (stmt_in body.now left at).0) }
     ensures { result ≡ out.now.here + words_s (stmt_in body.now left at).0 }

@@ -10,7 +10,7 @@ use checker::Program;
 use table::Table;
 
 impl TranslateFault {
-    // The refusal's number and the place that it tells.
+    // The refusal's number and the place that it tells: a method, since a pair made by From would not say what it is.
     pub fn told(&self) -> (u8, usize)
         ensures { result ≡ told self.now }
     {

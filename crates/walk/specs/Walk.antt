@@ -1,6 +1,6 @@
 -- The walk over the nodes in preorder, by the levels of nesting that are left. Each rule is applied where it is
 -- reached; a walk of a subtree answers what it found and the next node's place, or the first rule broken.
-use Rattle.std.specs.Prelude.{◌≡◌, ℕ, zero, suc, ◌+◌, max, Bool, true, false, cond, not, ◌&&◌, List, [], ◌∷◌, length, Some, None, Ok, Err, Option, Result, nat_lt}
+use Rattle.std.specs.Prelude.{◌≡◌, ℕ, zero, suc, ◌+◌, ◌<◌, max, Bool, true, false, cond, not, ◌&&◌, List, [], ◌∷◌, length, Some, None, Ok, Err, Option, Result, nat_lt}
 use Rattle.std.specs.Option.{ok_or, unwrap_or}
 use Rattle.table.specs.Flow.{onward}
 use Rattle.table.specs.Shapes.{shape_of}
@@ -83,6 +83,10 @@ beside a b = size (max a.height b.height) (a.words + b.words)
 -- left and right operand: the right one stands on the left one's value; the operator adds a word
 abbrev pub stacked : Found → Found → Size
 stacked a b = size (max a.size.height (1 + b.size.height)) (a.size.words + b.size.words + 1)
+
+-- the right operand's place and the operator's word can still be counted
+abbrev pub CanStack : Found → Found → Type 0
+CanStack a b = (b.size.height < 65535) × (a.size.words + b.size.words < 65535)
 
 -- an expression's size with a word of the node above it
 abbrev pub topped : Found → Size

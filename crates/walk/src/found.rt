@@ -22,7 +22,8 @@ pub struct Context {
     pub main: Option<Function>,
 }
 
-// A function whose body is read: the table where it stands, and the records that its nodes may refer to.
+// A function whose body is read: the table where it stands, and the records that its nodes may refer to. A node's place
+// and the levels left are no part of it and not one value: the next place goes on with the same levels.
 #[derive(Clone, Copy)]
 pub struct Body<'a> {
     pub table: &'a Table<'a>,

@@ -3,7 +3,7 @@ ghost use Rattle.std.specs.Prelude.{◌≡◌, ◌+◌, ◌<◌, max, ◌&&◌};
 ghost use Rattle.table.specs.Flow.{onward};
 ghost use Rattle.table.specs.Kinds.{operates};
 ghost use Rattle.language.specs.Measures.{operand_kind, unary_kind, unary_words};
-ghost use Rattle.walk.specs.Walk.{found, size, sized, stacked, beside, topped, judged, same_kind, needed, added, fitting};
+ghost use Rattle.walk.specs.Walk.{found, size, sized, CanStack, stacked, beside, topped, judged, same_kind, needed, added, fitting};
 
 use crate::fault::CheckFault;
 use crate::found::{Found, Size};
@@ -48,7 +48,7 @@ pub(crate) fn operation_on_one(
 
 // The right operand stands on the left one's value; the operator adds a word.
 fn stack(a: Found, b: Found) -> Size
-    requires { (b.size.height < 65535) × (a.size.words + b.size.words < 65535) }
+    requires { CanStack a b }
     ensures { result ≡ stacked a b }
 {
     Size {
@@ -65,7 +65,7 @@ pub(crate) fn operation_on_two(
     next: usize,
     at: usize,
 ) -> Result<(Found, usize), CheckFault>
-    requires { (b.size.height < 65535) × (a.size.words + b.size.words < 65535) }
+    requires { CanStack a b }
     ensures { result ≡ judged at (same_kind a.kind b.kind && operates operator a.kind) (sized a.kind (stacked a b), next) }
 {
     if a.kind != b.kind || !operator.takes(a.kind) {
@@ -85,7 +85,7 @@ pub(crate) fn comparison(
     next: usize,
     at: usize,
 ) -> Result<(Size, usize), CheckFault>
-    requires { (b.size.height < 65535) × (a.size.words + b.size.words < 65535) }
+    requires { CanStack a b }
     ensures { result ≡ judged at (same_kind a.kind b.kind) (stacked a b, next) }
 {
     if a.kind != b.kind {

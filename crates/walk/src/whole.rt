@@ -9,7 +9,7 @@ use crate::found::Passed;
 use table::{Table, read_layout};
 
 impl CheckFault {
-    // The refusal's number and the place that it tells.
+    // The refusal's number and the place that it tells: a method, since a pair made by From would not say what it is.
     pub fn told(&self) -> (u8, usize)
         ensures { result ≡ told self.now }
     {
