@@ -44,7 +44,7 @@ fn left_target(
 }
 
 // Writes the words of a comparison at a node, which jump to the target when it comes to that sense: the next node's
-// place.
+// place. Sense and target are not one value: each of the two translators has its sense and is given the target alone.
 fn compare(
     body: &Body,
     at: u16,

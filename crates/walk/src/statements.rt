@@ -45,6 +45,7 @@ fn exit_from(res: Option<Kind>, at: usize) -> Result<(Size, usize), CheckFault>
     }
 }
 
+// That the open loops are the same behind a walk is said by each of the four, in one equation: a type would say no more.
 impl Body<'_> {
     // The statement at `at` among the open loops: its height and words, and the next node's place.
     #[cycle(block_repeat_statement_statement_of)]
