@@ -1,5 +1,6 @@
 -- Steps over a line.
 use Rattle.std.proofs.Common.{◌≡◌, ℕ, zero, suc, ◌+◌, ◌-◌, ◌<◌, ◌≤◌, Bool, true, false, cond, eqb, ltb, leb, List, [], ◌∷◌, ◌++◌, length, get_or, drop, ℤ, Some, None, Ok, Err, Option, Result, sym, refl, ap, ◌∙◌, subst, arith, length-drop}
+use Rattle.std.specs.Bool.{then_some}
 use Rattle.std.proofs.lemmas.Bool.Decides.{nat_tests}
 use Rattle.table.specs.declared.shape.Scope.TheVariants.{Own, Main}
 use Rattle.table.specs.declared.shape.Format.{Format}
@@ -23,7 +24,7 @@ use Rattle.machine.specs.declared.plan.Outcome.TheVariants.{Ended, Failed}
 use Rattle.machine.specs.declared.state.Activation.{Activation}
 use Rattle.machine.specs.View.{Act, State, state, tops}
 use Rattle.machine.specs.Acts.{with_ops, with_one, size, first, pushed, dropped, act_by}
-use Rattle.machine.specs.States.{concluded, on_top, settled, main_variables, variable_at, loading_main, from_main, storing_main, to_main, entry_at, calling, called_by, called, leaving, left, handing, returning, returned, top_free, to_read, top_last, to_send, run, run_by, fetched, main_entry, opened, begun, advancing, advanced}
+use Rattle.machine.specs.States.{concluded, on_top, settled, main_variables, variable_at, loading_main, from_main, storing_main, to_main, entry_at, calling, called_by, called, leaving, left, handing, returning, returned, top_free, to_read, top_last, to_send, run, run_by, fetched, main_entry, opened, begun, advancing, advanced, undone}
 use Rattle.machine.specs.Steps.{World, world, latch_of, outcome_of, finished, delivered, performed, stepping, stepped, Held}
 use Rattle.machine.proofs.Tables.{none_open, later_step}
 
@@ -146,11 +147,11 @@ kept : (s s' : State) (q : Format) (node next : ℕ) (p : State × Plan) → (s'
 kept s s' q node next p e h = let g : Plans s (s', Read q node next) = subst (λ (z : State × Plan). Plans s z) (sym e) h in g.0
 
 -- where a wait is undone
-pub undone : (code : List ℕ) (xs : List Activation) (n p : ℕ) (s' : State) (q : Format) (node next : ℕ) → (s', Read q node next) ≡ advanced code (state (tops xs n) p)
-    → cond (eqb n 0) (state [] p) s' ≡ state (tops xs n) p
-undone code xs n p s' q node next e = by n e
+pub undo_is : (code : List ℕ) (xs : List Activation) (n p : ℕ) (s' : State) (q : Format) (node next : ℕ) → (s', Read q node next) ≡ advanced code (state (tops xs n) p)
+    → undone (then_some (eqb n 0) p) s' ≡ state (tops xs n) p
+undo_is code xs n p s' q node next e = by n e
   where
-    by : (m : ℕ) → (s', Read q node next) ≡ advanced code (state (tops xs m) p) → cond (eqb m 0) (state [] p) s' ≡ state (tops xs m) p
+    by : (m : ℕ) → (s', Read q node next) ≡ advanced code (state (tops xs m) p) → undone (then_some (eqb m 0) p) s' ≡ state (tops xs m) p
     by zero e = sym (ap (λ (z : List Act). state z p) (none_open xs 0 refl))
     by (suc m) e =
         let z : eqb (suc m) 0 ≡ false = grind (arith, nat_tests) in

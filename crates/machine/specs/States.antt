@@ -200,3 +200,8 @@ advancing code s (a ∷ xs) = fetched code s
 -- A step, as far as no line is needed: the first one opens main.
 unfoldable pub advanced : List ℕ → State → State × Plan
 advanced code s = advancing code s s.acts
+
+-- A machine with the opening of main taken back, if main was opened: the address is the one from before.
+abbrev pub undone : Option ℕ → State → State
+undone None s = s
+undone (Some at) s = state [] at

@@ -1,8 +1,8 @@
 // One step as far as no line is needed: what each instruction does to the machine.
-ghost use Rattle.std.specs.Prelude.{◌≡◌, ◌-◌, ◌<◌, ◌≤◌, [], IfSome, if◌then◌else◌, MatchBool};
-ghost use Rattle.machine.specs.View.{State, act_of, seen, state, view};
+ghost use Rattle.std.specs.Prelude.{◌≡◌, ◌-◌, ◌<◌, ◌≤◌, IfSome, MatchBool};
+ghost use Rattle.machine.specs.View.{State, act_of, seen, view};
 ghost use Rattle.machine.specs.Acts.{pushed, dropped, act_by};
-ghost use Rattle.machine.specs.States.{concluded, settled, from_main, to_main, has_result, entry_at, called, left, returned, to_read, to_send, run, fetched, main_entry, advanced};
+ghost use Rattle.machine.specs.States.{concluded, settled, from_main, to_main, has_result, entry_at, called, left, returned, to_read, to_send, run, fetched, main_entry, advanced, undone};
 
 use crate::plan::{Cause, Flow, Plan};
 use crate::state::{Activation, Core};
@@ -277,11 +277,11 @@ impl Core {
         }
     }
 
-    // Takes the opening of main back, if it was opened in this step.
-    pub fn undo(&mut self, first: bool, at: usize)
-        ensures { view self.new ≡ (if first then state [] at else view self.old) }
+    // Takes the opening of main back, if it was opened in this step: then `opened_at` is the address from before.
+    pub fn undo(&mut self, opened_at: Option<usize>)
+        ensures { view self.new ≡ undone opened_at (view self.old) }
     {
-        if first {
+        if let Some(at) = opened_at {
             self.depth = 0;
             self.at = at;
         }

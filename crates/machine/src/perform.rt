@@ -77,12 +77,11 @@ impl Machine {
             Latch::Failed(cause, node) => return Outcome::Failed(cause, node),
             Latch::Open => {}
         }
-        let first = self.core.depth == 0;
-        let at = self.core.at;
+        let opened_at = (self.core.depth == 0).then_some(self.core.at);
         match self.core.advance(code) {
             Plan::Read(format, node, next) => match find(format, peek(line).as_bytes()) {
                 Reading::Wait => {
-                    self.core.undo(first, at);
+                    self.core.undo(opened_at);
                     Outcome::Waits
                 }
                 Reading::Refused => self.settle(Plan::Fault(Cause::RefusedText, node)),

@@ -1,4 +1,4 @@
-use Rattle.std.proofs.Common.{◌≡◌, ℕ, List, ◌++◌, length, drop, ap, ◌∙◌, arith, w16, SFits, rules}
+use Rattle.std.proofs.Common.{◌≡◌, ℕ, List, ◌++◌, length, drop, Option, ap, ◌∙◌, arith, w16, SFits, rules}
 use Rattle.std.proofs.lemmas.Int.{to_z-of_z}
 use Rattle.number.specs.declared.text.Reading.{Reading}
 use Rattle.machine.specs.declared.plan.Cause.TheVariants.{RefusedText}
@@ -11,12 +11,12 @@ use Rattle.line.specs.Ends.{Removed}
 use Rattle.machine.specs.View.{State, view}
 use Rattle.machine.specs.Values.{text_of}
 use Rattle.machine.specs.Acts.{pushed}
-use Rattle.machine.specs.States.{settled}
+use Rattle.machine.specs.States.{settled, undone}
 use Rattle.machine.specs.Messages.{bytes_of}
 use Rattle.machine.specs.Steps.{world, received, finished}
 use Rattle.machine.proofs.Found.{found_there, found_inside}
 use Rattle.machine.proofs.Laws.{done}
-use Rattle.machine.proofs.Steps.{undone, step-ended, step_failed, step_by, finished_is, performed-rest, removed, held, held_at, taken_is, delivered_is, undelivered_is}
+use Rattle.machine.proofs.Steps.{undo_is, step-ended, step_failed, step_by, finished_is, performed-rest, removed, held, held_at, taken_is, delivered_is, undelivered_is}
 use Rattle.machine.proofs.state.Machine.step.Goals as goal
 
 pub returns-in-Ended : goal.returns-in-Ended
@@ -40,7 +40,7 @@ pub returns-in-Wait : goal.returns-in-Wait
 unfolding view
 returns-in-Wait g c =
     let d = found_there c.in-Read.format _ c.as_bytes.result.now (g.L.Line.waiting c.args.line.now) c.in-Wait.ensures (c.as_bytes.ensures ∙ c.peek.ensures) in
-    let u : view c.undo.new.self ≡ (view c.args.self.now.core) = c.undo.ensures ∙ undone c.args.code.now c.args.self.now.core.activations c.args.self.now.core.depth c.args.self.now.core.at (view c.advance.new.self) c.in-Read.format c.in-Read.node c.in-Read.next c.in-Read.ensures in
+    let u : view c.undo.new.self ≡ (view c.args.self.now.core) = c.undo.ensures ∙ (ap (λ (o : Option ℕ). undone o (view c.advance.new.self)) c.then_some-opened_at.ensures ∙ undo_is c.args.code.now c.args.self.now.core.activations c.args.self.now.core.depth c.args.self.now.core.at (view c.advance.new.self) c.in-Read.format c.in-Read.node c.in-Read.next c.in-Read.ensures) in
     let x : (world (view c.undo.new.self) c.args.self.now.latch (g.L.Line.waiting c.args.line.now) (g.L.Line.sent c.args.line.now) (g.L.Line.room c.args.line.now), Waits) ≡ (world (view c.args.self.now.core) Open (g.L.Line.waiting c.args.line.now) (g.L.Line.sent c.args.line.now) (g.L.Line.room c.args.line.now), Waits) =
     ap (λ (z : State). (world z c.args.self.now.latch (g.L.Line.waiting c.args.line.now) (g.L.Line.sent c.args.line.now) (g.L.Line.room c.args.line.now), Waits)) u ∙ ap (λ (z : Latch). (world (view c.args.self.now.core) z (g.L.Line.waiting c.args.line.now) (g.L.Line.sent c.args.line.now) (g.L.Line.room c.args.line.now), Waits)) c.in-Open.is in
     done _ _ _ _ _ (step_by _ _ _ _ _ _ _ _ _ c.in-Open.is c.in-Read.ensures
