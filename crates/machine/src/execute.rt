@@ -1,5 +1,5 @@
 // One step as far as no line is needed: what each instruction does to the machine.
-ghost use Rattle.std.specs.Prelude.{◌≡◌, ◌-◌, ◌<◌, ◌≤◌, IfSome, MatchBool};
+ghost use Rattle.std.specs.Prelude.{◌≡◌, ◌-◌, ◌<◌, ◌≤◌, IfSome, MatchResult};
 ghost use Rattle.machine.specs.View.{State, act_of, seen, view};
 ghost use Rattle.machine.specs.Acts.{pushed, dropped, act_by};
 ghost use Rattle.machine.specs.States.{concluded, settled, from_main, to_main, has_result, entry_at, called, left, returned, to_read, to_send, run, fetched, main_entry, advanced, undone};
@@ -249,31 +249,28 @@ impl Core {
         }
     }
 
-    // Sees to it that main is open; answers whether it is.
-    fn start(&mut self, code: &[u64]) -> bool
-        ensures { MatchBool result ((fetched code.now (view self.new) ≡ advanced code.now (view self.old)) × (0 < self.new.depth))
-            (◌≡◌ {A = State × Plan} (view self.new, Plan.Fault Cause.BadCode 0) (advanced code.now (view self.old))) }
+    // Sees to it that main is open.
+    fn start(&mut self, code: &[u64]) -> Result<(), Cause>
+        ensures { MatchResult result (λ _. (fetched code.now (view self.new) ≡ advanced code.now (view self.old)) × (0 < self.new.depth))
+            (λ cause. ◌≡◌ {A = State × Plan} (view self.new, Plan.Fault cause 0) (advanced code.now (view self.old))) }
     {
         if self.depth > 0 {
-            return true;
+            return Ok(());
         }
-        let Some(found) = main_entry(code) else {
-            return false;
-        };
+        let found = main_entry(code).ok_or(Cause::BadCode)?;
         self.activations[0] = open(found, [0; 64], 0);
         self.depth = 1;
         self.at = usize::from(found.address);
-        true
+        Ok(())
     }
 
     // A step as far as no line is needed; the first one opens main.
     pub fn advance(&mut self, code: &[u64]) -> Plan
         ensures { (view self.new, result) ≡ advanced code.now (view self.old) }
     {
-        if self.start(code) {
-            self.fetch(code)
-        } else {
-            Plan::Fault(Cause::BadCode, 0)
+        match self.start(code) {
+            Ok(()) => self.fetch(code),
+            Err(cause) => Plan::Fault(cause, 0),
         }
     }
 
