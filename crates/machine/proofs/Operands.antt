@@ -5,7 +5,7 @@ use Rattle.std.proofs.lemmas.Bool.Decides.{nat_tests}
 use Rattle.std.proofs.lemmas.List.{length-reverse, get_or-reverse}
 use Rattle.std.proofs.lemmas.Option.{slice_get-get_or}
 use Rattle.machine.specs.View.{Act}
-use Rattle.machine.specs.Acts.{with_ops, with_vars, size, first, last_two, popping, popped, with_one, with_two, resulting, jumping, pushed, loaded, storing, stored, dropped, changed, joined, branched, tested}
+use Rattle.machine.specs.Acts.{with_ops, with_vars, size, first, last_two, taking_off, taken_off, with_one, with_two, resulting, jumping, pushed, loaded, storing, stored, dropped, changed, joined, branched, tested}
 use Rattle.machine.specs.Values.{apply_unary, apply_binary, compared, is_true}
 use Rattle.table.specs.declared.shape.Kind.{Kind}
 use Rattle.table.specs.declared.shape.Unary.{Unary}
@@ -22,10 +22,10 @@ pub record Off (a b : Act) (x : ℤ) : Type 0 where
   pub ops : a.ops ≡ x ∷ b.ops
   pub rest : b ≡ with_ops a b.ops
 
-pub off : (a b : Act) (x : ℤ) → (b, Ok x) ≡ popped a → Off a b x
+pub off : (a b : Act) (x : ℤ) → (b, Ok x) ≡ taken_off a → Off a b x
 off a b x h = by a.ops refl h
   where
-    by : (ops : List ℤ) → a.ops ≡ ops → (b, Ok x) ≡ popping a ops → Off a b x
+    by : (ops : List ℤ) → a.ops ≡ ops → (b, Ok x) ≡ taking_off a ops → Off a b x
     by [] e h = let f = ap (λ (z : Act × Result ℤ Cause). z.1) h in absurd (cc)
     by (y ∷ s) e h =
         let f = ap (λ (z : Act × Result ℤ Cause). z.0) h in
@@ -34,10 +34,10 @@ off a b x h = by a.ops refl h
         record { ops = cc; rest = f ∙ ap (λ (t : List ℤ). with_ops a t) (sym k) }
 
 -- a pop that finds one
-pub pops : (a b : Act) (x : ℤ) → Some x ≡ first a.ops → b ≡ with_ops a (drop 1 a.ops) → (b, Ok x) ≡ popped a
+pub pops : (a b : Act) (x : ℤ) → Some x ≡ first a.ops → b ≡ with_ops a (drop 1 a.ops) → (b, Ok x) ≡ taken_off a
 pops a b x e f = by a.ops refl e
   where
-    by : (ops : List ℤ) → a.ops ≡ ops → Some x ≡ first ops → (b, Ok x) ≡ popping a ops
+    by : (ops : List ℤ) → a.ops ≡ ops → Some x ≡ first ops → (b, Ok x) ≡ taking_off a ops
     by [] k e = absurd (cc)
     by (y ∷ s) k e = let g : b ≡ with_ops a s = f ∙ ap (λ (z : List ℤ). with_ops a (drop 1 z)) k in let h : x ≡ y = cc in rw (g, h) refl
 
@@ -49,10 +49,10 @@ push_goes v a h = let t : ltb (size a) 64 ≡ true = grind (arith, nat_tests) in
 -- acts with the last operand
 module _ (a b : Act) where
   module _ (f : ℤ → List ℤ → Act × Result Flow Cause) where
-    one_err : (e : Cause) → (b, Err e) ≡ popped a → (b, Err e) ≡ with_one a f a.ops
+    one_err : (e : Cause) → (b, Err e) ≡ taken_off a → (b, Err e) ≡ with_one a f a.ops
     one_err e h = by a.ops h
       where
-        by : (ops : List ℤ) → (b, Err e) ≡ popping a ops → (b, Err e) ≡ with_one a f ops
+        by : (ops : List ℤ) → (b, Err e) ≡ taking_off a ops → (b, Err e) ≡ with_one a f ops
         by [] h =
             let g = ap (λ (z : Act × Result ℤ Cause). z.0) h in
             let k = ap (λ (z : Act × Result ℤ Cause). z.1) h in
@@ -62,7 +62,7 @@ module _ (a b : Act) where
     one_ok : (x : ℤ) → Off a b x → f x b.ops ≡ with_one a f a.ops
     one_ok x h = sym (ap (with_one a f) h.ops)
 
-  pub drop_err : (e : Cause) → (b, Err e) ≡ popped a → (b, Err e) ≡ dropped a
+  pub drop_err : (e : Cause) → (b, Err e) ≡ taken_off a → (b, Err e) ≡ dropped a
   unfolding dropped
   drop_err e h = one_err (λ x s. (with_ops a s, Ok Next)) e h
 
@@ -70,7 +70,7 @@ module _ (a b : Act) where
   unfolding dropped
   drop_ok x h = ap (λ (z : Act). (z, Ok Next)) h.rest ∙ one_ok (λ x s. (with_ops a s, Ok Next)) x h
 
-  pub test_err : (sense : Bool) (t : ℕ) (e : Cause) → (b, Err e) ≡ popped a → (b, Err e) ≡ tested sense t a
+  pub test_err : (sense : Bool) (t : ℕ) (e : Cause) → (b, Err e) ≡ taken_off a → (b, Err e) ≡ tested sense t a
   unfolding tested
   test_err sense t e h = one_err (λ x s. (with_ops a s, Ok (jumping sense t (is_true x)))) e h
 
@@ -79,7 +79,7 @@ module _ (a b : Act) where
   test_ok sense t x h =
       ap (λ (z : Act). (z, Ok (jumping sense t (is_true x)))) h.rest ∙ one_ok (λ x s. (with_ops a s, Ok (jumping sense t (is_true x)))) x h
 
-  pub change_err : (o : Unary) (e : Cause) → (b, Err e) ≡ popped a → (b, Err e) ≡ changed o a
+  pub change_err : (o : Unary) (e : Cause) → (b, Err e) ≡ taken_off a → (b, Err e) ≡ changed o a
   unfolding changed
   change_err o e h = one_err (λ x s. (with_ops a (apply_unary o x ∷ s), Ok Next)) e h
 
@@ -91,7 +91,7 @@ module _ (a b : Act) where
       push_goes (apply_unary o x) b (omega arith)
       ∙ (ap (λ (z : Act). (with_ops z (apply_unary o x ∷ b.ops), Ok Next)) h.rest ∙ one_ok (λ x s. (with_ops a (apply_unary o x ∷ s), Ok Next)) x h)
 
-  pub store_err : (i : ℕ) (e : Cause) → (b, Err e) ≡ popped a → (b, Err e) ≡ stored i a
+  pub store_err : (i : ℕ) (e : Cause) → (b, Err e) ≡ taken_off a → (b, Err e) ≡ stored i a
   unfolding stored
   store_err i e h = one_err (storing i a) e h
 

@@ -1,5 +1,6 @@
 -- Steps over a line.
 use Rattle.std.proofs.Common.{◌≡◌, ℕ, zero, suc, ◌+◌, ◌-◌, ◌<◌, ◌≤◌, Bool, true, false, cond, eqb, ltb, leb, List, [], ◌∷◌, ◌++◌, length, get_or, drop, ℤ, Some, None, Ok, Err, Option, Result, sym, refl, ap, ◌∙◌, subst, arith, length-drop}
+use Rattle.std.specs.Bool.{then_some}
 use Rattle.std.proofs.lemmas.Bool.Decides.{nat_tests}
 use Rattle.table.specs.declared.shape.Scope.TheVariants.{Own, Main}
 use Rattle.table.specs.declared.shape.Format.{Format}
@@ -16,6 +17,7 @@ use Rattle.machine.specs.declared.plan.Flow.{Flow}
 use Rattle.machine.specs.declared.plan.Flow.TheVariants.{Next}
 use Rattle.machine.specs.declared.plan.Plan.{Plan}
 use Rattle.machine.specs.declared.plan.Plan.TheVariants.{Went, Over, Fault, Read, Send}
+use Rattle.machine.specs.declared.plan.Site.{Site}
 use Rattle.machine.specs.declared.plan.Latch.{Latch}
 use Rattle.machine.specs.declared.plan.Latch.TheVariants.{Open, Ended as Closed, Failed as Broken}
 use Rattle.machine.specs.declared.plan.Outcome.{Outcome}
@@ -23,7 +25,7 @@ use Rattle.machine.specs.declared.plan.Outcome.TheVariants.{Ended, Failed}
 use Rattle.machine.specs.declared.state.Activation.{Activation}
 use Rattle.machine.specs.View.{Act, State, state, tops}
 use Rattle.machine.specs.Acts.{with_ops, with_one, size, first, pushed, dropped, act_by}
-use Rattle.machine.specs.States.{concluded, on_top, settled, main_variables, variable_at, loading_main, from_main, storing_main, to_main, entry_at, calling, called_by, called, leaving, left, handing, returning, returned, top_free, to_read, top_last, to_send, run, run_by, fetched, main_entry, opened, begun, advancing, advanced}
+use Rattle.machine.specs.States.{concluded, on_top, settled, main_variables, variable_at, loading_main, from_main, storing_main, to_main, entry_at, calling, called_by, called, leaving, left, handing, returning, returned, top_free, to_read, top_last, to_send, run, run_by, fetched, main_entry, opened, begun, advancing, advanced, undone}
 use Rattle.machine.specs.Steps.{World, world, latch_of, outcome_of, finished, delivered, performed, stepping, stepped, Held}
 use Rattle.machine.proofs.Tables.{none_open, later_step}
 
@@ -32,8 +34,8 @@ abbrev pub Planned : State → State → Plan → Type 0
 Planned s s' Went = Unit {0}
 Planned s s' Over = Unit {0}
 Planned s s' (Fault c n) = Unit {0}
-Planned s s' (Read q node next) = (s' ≡ s) × (top_free s.acts ≡ true)
-Planned s s' (Send q v node next) = (s' ≡ s) × (top_last s.acts ≡ Some v)
+Planned s s' (Read q at) = (s' ≡ s) × (top_free s.acts ≡ true)
+Planned s s' (Send q v at) = (s' ≡ s) × (top_last s.acts ≡ Some v)
 
 abbrev Plans : State → State × Plan → Type 0
 Plans s p = Planned s p.0 p.1
@@ -142,19 +144,19 @@ plans_fetched code s = plans_cond s (ltb s.at (length code)) _ _ (by (instructio
     by (Some i) = plans_run i (node_of (get_or code s.at 0)) (s.at + 1) code s
 
 -- a later step that comes to a read leaves the machine as it was
-kept : (s s' : State) (q : Format) (node next : ℕ) (p : State × Plan) → (s', Read q node next) ≡ p → Plans s p → s' ≡ s
-kept s s' q node next p e h = let g : Plans s (s', Read q node next) = subst (λ (z : State × Plan). Plans s z) (sym e) h in g.0
+kept : (s s' : State) (q : Format) (at : Site) (p : State × Plan) → (s', Read q at) ≡ p → Plans s p → s' ≡ s
+kept s s' q at p e h = let g : Plans s (s', Read q at) = subst (λ (z : State × Plan). Plans s z) (sym e) h in g.0
 
 -- where a wait is undone
-pub undone : (code : List ℕ) (xs : List Activation) (n p : ℕ) (s' : State) (q : Format) (node next : ℕ) → (s', Read q node next) ≡ advanced code (state (tops xs n) p)
-    → cond (eqb n 0) (state [] p) s' ≡ state (tops xs n) p
-undone code xs n p s' q node next e = by n e
+pub undo_is : (code : List ℕ) (xs : List Activation) (n p : ℕ) (s' : State) (q : Format) (at : Site) → (s', Read q at) ≡ advanced code (state (tops xs n) p)
+    → undone (then_some (eqb n 0) p) s' ≡ state (tops xs n) p
+undo_is code xs n p s' q at e = by n e
   where
-    by : (m : ℕ) → (s', Read q node next) ≡ advanced code (state (tops xs m) p) → cond (eqb m 0) (state [] p) s' ≡ state (tops xs m) p
+    by : (m : ℕ) → (s', Read q at) ≡ advanced code (state (tops xs m) p) → undone (then_some (eqb m 0) p) s' ≡ state (tops xs m) p
     by zero e = sym (ap (λ (z : List Act). state z p) (none_open xs 0 refl))
     by (suc m) e =
         let z : eqb (suc m) 0 ≡ false = grind (arith, nat_tests) in
-        rw z (kept (state (tops xs (suc m)) p) s' q node next (fetched code (state (tops xs (suc m)) p)) (e ∙ sym (later_step code xs (suc m) p (omega arith))) (plans_fetched code (state (tops xs (suc m)) p)))
+        rw z (kept (state (tops xs (suc m)) p) s' q at (fetched code (state (tops xs (suc m)) p)) (e ∙ sym (later_step code xs (suc m) p (omega arith))) (plans_fetched code (state (tops xs (suc m)) p)))
 
 -- a machine that has stopped
 pub step-ended : (code : List ℕ) (s : State) (l : Latch) (ws ss : List ℕ) (r : ℕ) → l ≡ Closed → (world s l ws ss r, Ended) ≡ stepped code (world s l ws ss r)
@@ -175,13 +177,13 @@ step_by code s l ws ss r s' d x o e f =
 pub finished_is : (s : State) (d : Plan) (t : State) (l : Latch) (o : Outcome) (ws ss : List ℕ) (r : ℕ) → t ≡ s → l ≡ latch_of d → o ≡ outcome_of d → (world t l ws ss r, o) ≡ finished (s, d) ws ss r
 finished_is s d t l o ws ss r e f g = rw (e, f, g) refl
 
-pub performed-rest : (s s' : State) (d : Plan) (ws ss : List ℕ) (r : ℕ) → ((q : Format) (node next : ℕ) → d ≡ Read q node next → ⊥) → ((q : Format) (v : ℤ) (node next : ℕ) → d ≡ Send q v node next → ⊥)
+pub performed-rest : (s s' : State) (d : Plan) (ws ss : List ℕ) (r : ℕ) → ((q : Format) (at : Site) → d ≡ Read q at → ⊥) → ((q : Format) (v : ℤ) (at : Site) → d ≡ Send q v at → ⊥)
     → finished (s', d) ws ss r ≡ performed s s' d ws ss r
 performed-rest s s' Went ws ss r f g = refl
 performed-rest s s' Over ws ss r f g = refl
 performed-rest s s' (Fault c n) ws ss r f g = refl
-performed-rest s s' (Read q node next) ws ss r f g = absurd (f q node next refl)
-performed-rest s s' (Send q v node next) ws ss r f g = absurd (g q v node next refl)
+performed-rest s s' (Read q at) ws ss r f g = absurd (f q at refl)
+performed-rest s s' (Send q v at) ws ss r f g = absurd (g q v at refl)
 
 -- a take of what was found
 pub removed : (t : Result (Unit {0}) LineRefusal) (n : ℕ) (ws : List ℕ) (h : ℕ) (ws' : List ℕ) (h' : ℕ) → Removed t n ws h ws' h' → n ≤ length ws → (ws' ≡ drop n ws) × Held h h' ws ws'
@@ -222,8 +224,8 @@ ready_from : (s s' : State) (d : Plan) → Planned s s' d → Planned s' s' d
 ready_from s s' Went h = tt
 ready_from s s' Over h = tt
 ready_from s s' (Fault c n) h = tt
-ready_from s s' (Read q node next) h = (refl, ap (λ (z : State). top_free z.acts) h.0 ∙ h.1)
-ready_from s s' (Send q v node next) h = (refl, ap (λ (z : State). top_last z.acts) h.0 ∙ h.1)
+ready_from s s' (Read q at) h = (refl, ap (λ (z : State). top_free z.acts) h.0 ∙ h.1)
+ready_from s s' (Send q v at) h = (refl, ap (λ (z : State). top_last z.acts) h.0 ∙ h.1)
 
 ready_fetched : (code : List ℕ) (s : State) → Ready (fetched code s)
 ready_fetched code s = ready_from s (fetched code s).0 (fetched code s).1 (plans_fetched code s)

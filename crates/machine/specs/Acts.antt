@@ -43,12 +43,12 @@ last_two (y ∷ []) = None
 last_two (y ∷ x ∷ s) = Some (x, y)
 
 -- the last operand, taken off
-abbrev pub popping : Act → List ℤ → Act × Result ℤ Cause
-popping a [] = (a, Err BadCode)
-popping a (x ∷ s) = (with_ops a s, Ok x)
+abbrev pub taking_off : Act → List ℤ → Act × Result ℤ Cause
+taking_off a [] = (a, Err BadCode)
+taking_off a (x ∷ s) = (with_ops a s, Ok x)
 
-abbrev pub popped : Act → Act × Result ℤ Cause
-popped a = popping a a.ops
+abbrev pub taken_off : Act → Act × Result ℤ Cause
+taken_off a = taking_off a a.ops
 
 -- An act with the last operand, or the last two; bad code where they are missing, and nothing changes then.
 abbrev pub with_one : Act → (ℤ → List ℤ → Act × Result Flow Cause) → List ℤ → Act × Result Flow Cause

@@ -1,7 +1,7 @@
 // What instructions do that concern one activation alone.
 ghost use Rattle.std.specs.Prelude.{◌≡◌, ◌-◌, ◌≤◌, ◌++◌, length, drop, replicate, reverse, pos, nat_lt, slice_set};
 ghost use Rattle.machine.specs.View.{seen};
-ghost use Rattle.machine.specs.Acts.{pushed, popped, loaded, stored, dropped, changed, joined, branched, tested, act_by, size, first, last_two, with_ops, with_vars};
+ghost use Rattle.machine.specs.Acts.{pushed, taken_off, loaded, stored, dropped, changed, joined, branched, tested, act_by, size, first, last_two, with_ops, with_vars};
 ghost use Rattle.machine.specs.States.{args, variable_at};
 
 use crate::operate::{apply_binary, apply_unary, compare, jump_if};
@@ -108,7 +108,7 @@ impl Activation {
 
     // The last operand, taken off.
     fn pop(&mut self) -> Result<i16, Cause>
-        ensures { (seen self.new, result) ≡ popped (seen self.old) }
+        ensures { (seen self.new, result) ≡ taken_off (seen self.old) }
     {
         let value = self.last().ok_or(Cause::BadCode)?;
         self.release(1);

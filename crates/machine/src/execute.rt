@@ -1,10 +1,10 @@
 // One step as far as no line is needed: what each instruction does to the machine.
-ghost use Rattle.std.specs.Prelude.{◌≡◌, ◌-◌, ◌<◌, ◌≤◌, [], IfSome, if◌then◌else◌, MatchBool};
-ghost use Rattle.machine.specs.View.{State, act_of, seen, state, view};
+ghost use Rattle.std.specs.Prelude.{◌≡◌, ◌-◌, ◌<◌, ◌≤◌, IfSome, MatchResult};
+ghost use Rattle.machine.specs.View.{State, act_of, seen, view};
 ghost use Rattle.machine.specs.Acts.{pushed, dropped, act_by};
-ghost use Rattle.machine.specs.States.{concluded, settled, from_main, to_main, has_result, entry_at, called, left, returned, to_read, to_send, run, fetched, main_entry, advanced};
+ghost use Rattle.machine.specs.States.{concluded, settled, from_main, to_main, has_result, entry_at, called, left, returned, to_read, to_send, run, fetched, main_entry, advanced, undone};
 
-use crate::plan::{Cause, Flow, Plan};
+use crate::plan::{Cause, Flow, Plan, Site};
 use crate::state::{Activation, Core};
 use code::{Entry, Instruction, decode, decode_entry, node_of};
 use table::{Format, Kind, Scope};
@@ -49,35 +49,35 @@ fn open(found: Entry, cells: [i16; 64], back: usize) -> Activation
     }
 }
 
-fn to_read(free: bool, format: Format, node: u16, next: usize) -> Plan
-    ensures { result ≡ to_read free format node next }
+fn to_read(free: bool, format: Format, site: Site) -> Plan
+    ensures { result ≡ to_read free format site.node site.next }
 {
     if free {
-        Plan::Read(format, node, next)
+        Plan::Read(format, site)
     } else {
-        Plan::Fault(Cause::BadCode, node)
+        Plan::Fault(Cause::BadCode, site.node)
     }
 }
 
-fn to_send(last: Option<i16>, format: Format, node: u16, next: usize) -> Plan
-    ensures { result ≡ to_send last format node next }
+fn to_send(last: Option<i16>, format: Format, site: Site) -> Plan
+    ensures { result ≡ to_send last format site.node site.next }
 {
     match last {
-        None => Plan::Fault(Cause::BadCode, node),
-        Some(value) => Plan::Send(format, value, node, next),
+        None => Plan::Fault(Cause::BadCode, site.node),
+        Some(value) => Plan::Send(format, value, site),
     }
 }
 
 // `act`, `receive` and `release` differ in the act alone. As one function that takes the act as a closure they would be
 // no plainer: its contract would have to speak of every closure's effect on what an activation stands for.
 impl Core {
-    fn conclude(&mut self, effect: Result<Flow, Cause>, node: u16, next: usize) -> Plan
-        ensures { (view self.new, result) ≡ concluded effect node next (view self.old) }
+    fn conclude(&mut self, effect: Result<Flow, Cause>, site: Site) -> Plan
+        ensures { (view self.new, result) ≡ concluded effect site.node site.next (view self.old) }
     {
         match effect {
-            Err(cause) => Plan::Fault(cause, node),
+            Err(cause) => Plan::Fault(cause, site.node),
             Ok(flow) => {
-                self.at = flow.after(next);
+                self.at = flow.after(site.next);
                 Plan::Went
             }
         }
@@ -85,87 +85,87 @@ impl Core {
 
     // Here and below `_read` stands since the prover follows an element that is changed in a struct with a fact of its
     // own only where one was read before.
-    fn act(&mut self, instruction: Instruction, node: u16, next: usize) -> Plan
+    fn act(&mut self, instruction: Instruction, site: Site) -> Plan
         requires { 0 < self.old.depth }
-        ensures { (view self.new, result) ≡ settled (act_by instruction) node next (view self.old) }
+        ensures { (view self.new, result) ≡ settled (act_by instruction) site.node site.next (view self.old) }
     {
         let top = self.depth - 1;
         let _read = &self.activations[top];
         let effect = self.activations[top].act(instruction);
-        self.conclude(effect, node, next)
+        self.conclude(effect, site)
     }
 
     // One operand more on the newest activation, if there is one.
-    pub fn receive(&mut self, value: i16, node: u16, next: usize) -> Plan
-        ensures { (view self.new, result) ≡ settled (pushed value) node next (view self.old) }
+    pub fn receive(&mut self, value: i16, site: Site) -> Plan
+        ensures { (view self.new, result) ≡ settled (pushed value) site.node site.next (view self.old) }
     {
         if self.depth == 0 {
-            return Plan::Fault(Cause::BadCode, node);
+            return Plan::Fault(Cause::BadCode, site.node);
         }
         let top = self.depth - 1;
         let _read = &self.activations[top];
         let effect = self.activations[top].push(value);
-        self.conclude(effect, node, next)
+        self.conclude(effect, site)
     }
 
     // One operand fewer on the newest activation, if there is one.
-    pub fn release(&mut self, node: u16, next: usize) -> Plan
-        ensures { (view self.new, result) ≡ settled dropped node next (view self.old) }
+    pub fn release(&mut self, site: Site) -> Plan
+        ensures { (view self.new, result) ≡ settled dropped site.node site.next (view self.old) }
     {
         if self.depth == 0 {
-            return Plan::Fault(Cause::BadCode, node);
+            return Plan::Fault(Cause::BadCode, site.node);
         }
         let top = self.depth - 1;
         let _read = &self.activations[top];
         let effect = self.activations[top].discard();
-        self.conclude(effect, node, next)
+        self.conclude(effect, site)
     }
 
-    fn load_main(&mut self, slot: usize, node: u16, next: usize) -> Plan
+    fn load_main(&mut self, slot: usize, site: Site) -> Plan
         requires { 0 < self.old.depth }
-        ensures { (view self.new, result) ≡ from_main slot node next (view self.old) }
+        ensures { (view self.new, result) ≡ from_main slot site.node site.next (view self.old) }
     {
         match self.activations[0].variable(slot) {
-            None => Plan::Fault(Cause::BadCode, node),
-            Some(value) => self.receive(value, node, next),
+            None => Plan::Fault(Cause::BadCode, site.node),
+            Some(value) => self.receive(value, site),
         }
     }
 
-    fn store_main(&mut self, slot: usize, node: u16, next: usize) -> Plan
+    fn store_main(&mut self, slot: usize, site: Site) -> Plan
         requires { 0 < self.old.depth }
-        ensures { (view self.new, result) ≡ to_main slot node next (view self.old) }
+        ensures { (view self.new, result) ≡ to_main slot site.node site.next (view self.old) }
     {
         let top = self.depth - 1;
         let Some(value) = self.activations[top].last() else {
-            return Plan::Fault(Cause::BadCode, node);
+            return Plan::Fault(Cause::BadCode, site.node);
         };
         if !self.activations[0].has(slot) {
-            return Plan::Fault(Cause::BadCode, node);
+            return Plan::Fault(Cause::BadCode, site.node);
         }
         self.activations[0].assign(slot, value);
         let _ = self.activations[top].discard();
-        self.at = next;
+        self.at = site.next;
         Plan::Went
     }
 
-    fn call(&mut self, function: u32, node: u16, next: usize, code: &[u64]) -> Plan
+    fn call(&mut self, function: u32, site: Site, code: &[u64]) -> Plan
         requires { 0 < self.old.depth }
-        ensures { (view self.new, result) ≡ called code.now function node next (view self.old) }
+        ensures { (view self.new, result) ≡ called code.now function site.node site.next (view self.old) }
     {
         let Some(found) = entry_at(code, function as usize) else {
-            return Plan::Fault(Cause::BadCode, node);
+            return Plan::Fault(Cause::BadCode, site.node);
         };
         let depth = self.depth;
         let given = usize::from(found.parameters);
         if self.activations[depth - 1].operands().len() < given {
-            return Plan::Fault(Cause::BadCode, node);
+            return Plan::Fault(Cause::BadCode, site.node);
         }
         if depth >= 32 {
-            return Plan::Fault(Cause::TooDeep, node);
+            return Plan::Fault(Cause::TooDeep, site.node);
         }
         let cells = self.activations[depth - 1].arguments(given);
         self.activations[depth - 1].release(given);
-        self.activations[depth] = open(found, cells, next);
+        self.activations[depth] = open(found, cells, site.next);
         self.depth = depth + 1;
         self.at = usize::from(found.address);
         Plan::Went
@@ -210,27 +210,27 @@ impl Core {
         Plan::Went
     }
 
-    fn run(&mut self, instruction: Instruction, node: u16, next: usize, code: &[u64]) -> Plan
+    fn run(&mut self, instruction: Instruction, site: Site, code: &[u64]) -> Plan
         requires { 0 < self.old.depth }
-        ensures { (view self.new, result) ≡ run instruction node next code.now (view self.old) }
+        ensures { (view self.new, result) ≡ run instruction site.node site.next code.now (view self.old) }
     {
         match instruction {
-            Instruction::Variable(Scope::Main, slot) => self.load_main(slot as usize, node, next),
-            Instruction::Assign(Scope::Main, slot) => self.store_main(slot as usize, node, next),
-            Instruction::Call(function) => self.call(function, node, next, code),
-            Instruction::Perform(function) => self.call(function, node, next, code),
-            Instruction::Exit => self.leave(Cause::BadCode, node),
-            Instruction::Close => self.leave(Cause::NoReturn, node),
-            Instruction::Return => self.give_back(node),
+            Instruction::Variable(Scope::Main, slot) => self.load_main(slot as usize, site),
+            Instruction::Assign(Scope::Main, slot) => self.store_main(slot as usize, site),
+            Instruction::Call(function) => self.call(function, site, code),
+            Instruction::Perform(function) => self.call(function, site, code),
+            Instruction::Exit => self.leave(Cause::BadCode, site.node),
+            Instruction::Close => self.leave(Cause::NoReturn, site.node),
+            Instruction::Return => self.give_back(site.node),
             Instruction::Read(format) => {
                 let free = self.activations[self.depth - 1].free();
-                to_read(free, format, node, next)
+                to_read(free, format, site)
             }
             Instruction::Write(format) => {
                 let last = self.activations[self.depth - 1].last();
-                to_send(last, format, node, next)
+                to_send(last, format, site)
             }
-            _ => self.act(instruction, node, next),
+            _ => self.act(instruction, site),
         }
     }
 
@@ -242,46 +242,46 @@ impl Core {
             return Plan::Fault(Cause::BadCode, 0);
         }
         let word = code[self.at];
-        let node = node_of(word);
+        let site = Site {
+            node: node_of(word),
+            next: self.at + 1,
+        };
         match decode(word) {
-            None => Plan::Fault(Cause::BadCode, node),
-            Some(instruction) => self.run(instruction, node, self.at + 1, code),
+            None => Plan::Fault(Cause::BadCode, site.node),
+            Some(instruction) => self.run(instruction, site, code),
         }
     }
 
-    // Sees to it that main is open; answers whether it is.
-    fn start(&mut self, code: &[u64]) -> bool
-        ensures { MatchBool result ((fetched code.now (view self.new) ≡ advanced code.now (view self.old)) × (0 < self.new.depth))
-            (◌≡◌ {A = State × Plan} (view self.new, Plan.Fault Cause.BadCode 0) (advanced code.now (view self.old))) }
+    // Sees to it that main is open.
+    fn start(&mut self, code: &[u64]) -> Result<(), Cause>
+        ensures { MatchResult result (λ _. (fetched code.now (view self.new) ≡ advanced code.now (view self.old)) × (0 < self.new.depth))
+            (λ cause. ◌≡◌ {A = State × Plan} (view self.new, Plan.Fault cause 0) (advanced code.now (view self.old))) }
     {
         if self.depth > 0 {
-            return true;
+            return Ok(());
         }
-        let Some(found) = main_entry(code) else {
-            return false;
-        };
+        let found = main_entry(code).ok_or(Cause::BadCode)?;
         self.activations[0] = open(found, [0; 64], 0);
         self.depth = 1;
         self.at = usize::from(found.address);
-        true
+        Ok(())
     }
 
     // A step as far as no line is needed; the first one opens main.
     pub fn advance(&mut self, code: &[u64]) -> Plan
         ensures { (view self.new, result) ≡ advanced code.now (view self.old) }
     {
-        if self.start(code) {
-            self.fetch(code)
-        } else {
-            Plan::Fault(Cause::BadCode, 0)
+        match self.start(code) {
+            Ok(()) => self.fetch(code),
+            Err(cause) => Plan::Fault(cause, 0),
         }
     }
 
-    // Takes the opening of main back, if it was opened in this step.
-    pub fn undo(&mut self, first: bool, at: usize)
-        ensures { view self.new ≡ (if first then state [] at else view self.old) }
+    // Takes the opening of main back, if it was opened in this step: then `opened_at` is the address from before.
+    pub fn undo(&mut self, opened_at: Option<usize>)
+        ensures { view self.new ≡ undone opened_at (view self.old) }
     {
-        if first {
+        if let Some(at) = opened_at {
             self.depth = 0;
             self.at = at;
         }

@@ -77,27 +77,26 @@ impl Machine {
             Latch::Failed(cause, node) => return Outcome::Failed(cause, node),
             Latch::Open => {}
         }
-        let first = self.core.depth == 0;
-        let at = self.core.at;
+        let opened_at = (self.core.depth == 0).then_some(self.core.at);
         match self.core.advance(code) {
-            Plan::Read(format, node, next) => match find(format, peek(line).as_bytes()) {
+            Plan::Read(format, site) => match find(format, peek(line).as_bytes()) {
                 Reading::Wait => {
-                    self.core.undo(first, at);
+                    self.core.undo(opened_at);
                     Outcome::Waits
                 }
-                Reading::Refused => self.settle(Plan::Fault(Cause::RefusedText, node)),
+                Reading::Refused => self.settle(Plan::Fault(Cause::RefusedText, site.node)),
                 Reading::Took { value, count } => {
                     let _ = line.take(count);
-                    let plan = self.core.receive(value, node, next);
+                    let plan = self.core.receive(value, site);
                     self.settle(plan)
                 }
             },
-            Plan::Send(format, value, node, next) => {
+            Plan::Send(format, value, site) => {
                 if send_text(line, compose(format, value).as_bytes()) {
-                    let plan = self.core.release(node, next);
+                    let plan = self.core.release(site);
                     self.settle(plan)
                 } else {
-                    self.settle(Plan::Fault(Cause::NoRoom, node))
+                    self.settle(Plan::Fault(Cause::NoRoom, site.node))
                 }
             }
             plan => self.settle(plan),

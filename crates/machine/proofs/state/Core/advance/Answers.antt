@@ -1,5 +1,5 @@
 use Rattle.std.proofs.Common.{◌∙◌}
 use Rattle.machine.proofs.state.Core.advance.Goals as goal
 
-pub returns-then-start : goal.returns-then-start
-returns-then-start c = c.fetch.ensures ∙ c.if-start.ensures.0
+pub returns-in-Ok : goal.returns-in-Ok
+returns-in-Ok c = c.fetch.ensures ∙ c.in-Ok.ensures.0

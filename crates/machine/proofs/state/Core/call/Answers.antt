@@ -12,7 +12,7 @@ use Rattle.machine.proofs.state.Core.call.Goals as goal
 pub returns-in_default : goal.returns-in_default
 unfolding view
 returns-in_default c =
-    call_none c.args.code.now c.args.function c.args.node c.args.next (view c.args.self.now) c.in_default.ensures.is
+    call_none c.args.code.now c.args.function c.args.site.node c.args.site.next (view c.args.self.now) c.in_default.ensures.is
 
 pub returns-then-operands-given : goal.returns-then-operands-given
 unfolding view
@@ -39,7 +39,7 @@ returns c =
     let e : c.arguments-cells.result ≡ args c.in-Some.found.parameters (seen (get_or c.args.self.now.activations (c.args.self.now.depth - 1) c.index-self-depth-3.result)).ops ++ replicate (64 - c.in-Some.found.parameters) (pos 0) =
     c.arguments-cells.ensures
     ∙ (ap (λ (x : Activation). args c.from-given.result (seen x).ops ++ replicate (64 - c.from-given.result) (pos 0)) (any_default c.args.self.now.activations (c.args.self.now.depth - 1) c.index-self-depth-2.result c.index-self-depth-3.result (omega arith)) ∙ ap (λ (j : ℕ). args j (seen (get_or c.args.self.now.activations (c.args.self.now.depth - 1) c.index-self-depth-3.result)).ops ++ replicate (64 - j) (pos 0)) c.from-given.ensures) in
-    let r : seen c.open.result ≡ fresh c.in-Some.found c.args.next (args c.in-Some.found.parameters (seen (get_or c.args.self.now.activations (c.args.self.now.depth - 1) c.index-self-depth-3.result)).ops) =
-    c.open.ensures ∙ fresh_is c.in-Some.found c.args.next (args c.in-Some.found.parameters (seen (get_or c.args.self.now.activations (c.args.self.now.depth - 1) c.index-self-depth-3.result)).ops) c.arguments-cells.result e (length-args c.in-Some.found.parameters (seen (get_or c.args.self.now.activations (c.args.self.now.depth - 1) c.index-self-depth-3.result)).ops k) c.in-Some.ensures.few.1 c.in-Some.ensures.few.0 in
+    let r : seen c.open.result ≡ fresh c.in-Some.found c.args.site.next (args c.in-Some.found.parameters (seen (get_or c.args.self.now.activations (c.args.self.now.depth - 1) c.index-self-depth-3.result)).ops) =
+    c.open.ensures ∙ fresh_is c.in-Some.found c.args.site.next (args c.in-Some.found.parameters (seen (get_or c.args.self.now.activations (c.args.self.now.depth - 1) c.index-self-depth-3.result)).ops) c.arguments-cells.result e (length-args c.in-Some.found.parameters (seen (get_or c.args.self.now.activations (c.args.self.now.depth - 1) c.index-self-depth-3.result)).ops k) c.in-Some.ensures.few.1 c.in-Some.ensures.few.0 in
     ap (λ (a : ℕ). (state (tops (set (set c.args.self.now.activations (c.args.self.now.depth - 1) c.release.new.self) c.args.self.now.depth c.open.result) (c.args.self.now.depth + 1)) a, Went)) c.from-self.ensures
     ∙ call_in _ _ _ _ _ c.requires l c.args.code.now c.args.function c.in-Some.found c.in-Some.ensures.is c.index-self-depth-3.result k (omega arith) c.release.new.self c.open.result q r w

@@ -11,9 +11,9 @@ returns-then-self-code c =
 pub returns-in-None : goal.returns-in-None
 unfolding view
 returns-in-None c =
-    fetch_in c.args.code.now (view c.args.self.now) None c.node_of-node.result c.if-self-code.false c.in-None.ensures.value c.node_of-node.ensures
+    fetch_in c.args.code.now (view c.args.self.now) None c.node_of.result c.if-self-code.false c.in-None.ensures.value c.node_of.ensures
 
 pub returns-in-Some : goal.returns-in-Some
 unfolding view
 returns-in-Some c =
-    c.run.ensures ∙ fetch_in c.args.code.now (view c.args.self.now) (Some c.in-Some.instruction) c.node_of-node.result c.if-self-code.false c.in-Some.ensures.value c.node_of-node.ensures
+    c.run.ensures ∙ fetch_in c.args.code.now (view c.args.self.now) (Some c.in-Some.instruction) c.node_of.result c.if-self-code.false c.in-Some.ensures.value c.node_of.ensures

@@ -17,5 +17,5 @@ unfolding view
 returns-in-Some c =
     let l : c.args.self.now.depth ≤ length c.args.self.now.activations = omega arith in
     let f : SFits w16 c.in-Some.value = search rules in
-    let e : (view c.receive.new.self, c.receive.result) ≡ settled (pushed c.in-Some.value) c.args.node c.args.next (view c.args.self.now) = simp to_z-of_z at c.receive.ensures in
+    let e : (view c.receive.new.self, c.receive.result) ≡ settled (pushed c.in-Some.value) c.args.site.node c.args.site.next (view c.args.self.now) = simp to_z-of_z at c.receive.ensures in
     e ∙ load_main_some _ _ _ _ _ c.requires l c.args.slot c.index-self-0.result c.in-Some.value c.in-Some.ensures

@@ -7,7 +7,7 @@ use Rattle.machine.proofs.state.Core.receive.Goals as goal
 
 pub returns-then-self-eq0 : goal.returns-then-self-eq0
 unfolding view
-returns-then-self-eq0 c = settled_none c.args.self.now.activations c.args.self.now.depth c.args.self.now.at c.args.node c.args.next (pushed c.args.value) c.if-self-eq0.true
+returns-then-self-eq0 c = settled_none c.args.self.now.activations c.args.self.now.depth c.args.self.now.at c.args.site.node c.args.site.next (pushed c.args.value) c.if-self-eq0.true
 
 pub returns : goal.returns
 unfolding view

@@ -2,7 +2,6 @@ use Rattle.std.proofs.Common.{refl}
 use Rattle.machine.specs.View.{view, tops}
 use Rattle.machine.proofs.state.Core.undo.Goals as goal
 
-pub returns-then-first : goal.returns-then-first
+pub returns-in-Some : goal.returns-in-Some
 unfolding view tops
-returns-then-first c =
-    rw c.if-first.true refl
+returns-in-Some c = rw c.in-Some.is refl
