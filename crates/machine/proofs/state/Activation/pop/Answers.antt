@@ -1,9 +1,8 @@
-use Rattle.std.proofs.Common.{◌≡◌, length, Some, ap, arith, w16, SFits, rules}
-use Rattle.std.proofs.lemmas.Int.{to_z-of_z}
+use Rattle.std.proofs.Common.{◌≡◌, length, Some, ap, arith, rules}
 use Rattle.machine.specs.View.{seen}
 use Rattle.machine.specs.Acts.{first}
 use Rattle.machine.proofs.Cells.{counted}
-use Rattle.machine.proofs.Operands.{first_there, pops}
+use Rattle.machine.proofs.Operands.{first_there}
 use Rattle.machine.proofs.state.Activation.pop.Goals as goal
 
 pub release-requires : goal.release-requires
@@ -12,9 +11,3 @@ release-requires c =
     let n = counted c.args.self.now l in
     let e : Some c.in_ok-value.value ≡ first (seen c.args.self.now).ops = search rules in
     omega (arith, ap length (first_there _ _ e))
-
-pub returns : goal.returns
-returns c =
-    let f : SFits w16 c.in_ok-value.value = search rules in
-    let e : Some c.in_ok-value.value ≡ first (seen c.args.self.now).ops = search rules in
-    simp (to_z-of_z w16 _ f) (pops (seen c.args.self.now) (seen c.release.new.self) c.in_ok-value.value e c.release.ensures)
