@@ -1,12 +1,10 @@
 -- What the cells of an activation do to the lists that they hold.
-use Rattle.std.proofs.Common.{◌≡◌, ℕ, zero, suc, ◌+◌, ◌-◌, ◌<◌, ◌≤◌, true, false, ltb, ◌≢◌, List, [], ◌∷◌, length, get_or, take, drop, reverse, set, ℤ, pos, Ok, Err, Some, None, Option, Bor, refl, ap, arith, length-take, length-drop, take-suc, get_or-drop, get_or-set_other, get_or-set_same}
+use Rattle.std.proofs.Common.{◌≡◌, ℕ, zero, suc, ◌+◌, ◌-◌, ◌<◌, ◌≤◌, true, false, ltb, ◌≢◌, List, [], ◌∷◌, length, get_or, take, drop, reverse, set, ℤ, pos, Ok, Err, refl, ap, arith, length-take, length-drop, take-suc, get_or-drop, get_or-set_other, get_or-set_same}
 use lib.Seq.{take-set-le, take-set-lt}
-use Rattle.std.specs.Option.{is_some, unwrap_or, option_copied}
 use Rattle.std.proofs.lemmas.Bool.Decides.{nat_tests}
 use Rattle.std.proofs.lemmas.Grind.{reverse_onto}
 use Rattle.machine.specs.View.{act_of, down, seen}
 use Rattle.machine.specs.Acts.{with_vars, size, pushed}
-use Rattle.machine.specs.States.{variable_at}
 use Rattle.machine.specs.declared.state.Activation.{Activation}
 use Rattle.machine.specs.declared.plan.Cause.TheVariants.{BadCode}
 use Rattle.machine.specs.declared.plan.Flow.TheVariants.{Next}
@@ -50,11 +48,6 @@ set_past : (ys : List ℤ) (i : ℕ) (v : ℤ) → length ys ≤ i → set ys i 
 set_past [] i v h = refl
 set_past (y ∷ ys) zero v h = let z : ⊥ = omega arith in absurd z
 set_past (y ∷ ys) (suc i) v h = ap (λ (l : List ℤ). y ∷ l) (set_past ys i v (omega arith))
-
--- what stands in a slot
-pub looked_up : (vars : List ℤ) (i : ℕ) (r : Option (Bor ℤ)) → is_some r ≡ ltb i (length vars) → unwrap_or (option_copied r) (pos 0) ≡ get_or vars i (pos 0) → option_copied r ≡ variable_at vars i
-looked_up vars i None b u = rw (← b) refl
-looked_up vars i (Some x) b u = rw (← b) (ap Some u)
 
 -- an activation in its cells
 module _ (a : Activation) (l : length a.cells ≡ 64) where

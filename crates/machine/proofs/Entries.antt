@@ -1,8 +1,8 @@
 -- Entry words as the machine reads them.
-use Rattle.std.proofs.Common.{◌≡◌, ℕ, ◌<◌, ◌≤◌, true, false, eqb, ltb, List, length, get_or, IfSome, Some, None, Option, sym, refl, ap, ◌∙◌, arith}
+use Rattle.std.proofs.Common.{◌≡◌, ℕ, ◌<◌, ◌≤◌, true, false, eqb, ltb, List, length, get_or, Some, None, Option, sym, refl, ap, ◌∙◌, arith}
 use Rattle.std.proofs.lemmas.Bool.Decides.{nat_tests}
 use Rattle.code.specs.declared.instruction.Entry.{Entry}
-use Rattle.code.specs.Entries.{entry_of, EntryWrittenAgain}
+use Rattle.code.specs.Entries.{entry_of}
 use Rattle.machine.specs.States.{entry_at, has_result, plain_entry, main_entry}
 
 pub entry-out : (code : List ℕ) (f : ℕ) → length code ≤ f → None ≡ entry_at code f
@@ -12,11 +12,6 @@ entry-out code f h = let e : ltb f (length code) ≡ false = grind (arith, nat_t
 pub entry_in : (code : List ℕ) (f : ℕ) (r : Option Entry) → f < length code → r ≡ entry_of (get_or code f 0) → r ≡ entry_at code f
 unfolding entry_at
 entry_in code f r h k = let e : ltb f (length code) ≡ true = grind (arith, nat_tests) in rw e k
-
--- the limits of an entry that was read
-pub entry-few : (w : ℕ) (r : Option Entry) → EntryWrittenAgain w r → IfSome r (λ e. (e.variables ≤ 32) × (e.parameters ≤ e.variables))
-entry-few w None h = tt
-entry-few w (Some e) h = (h.0.variables, h.0.among)
 
 module _ (code : List ℕ) where
   pub main_none : None ≡ entry_at code 0 → None ≡ main_entry code

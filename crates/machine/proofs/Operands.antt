@@ -1,9 +1,6 @@
 -- Acts with the last operand, or the last two.
-use Rattle.std.proofs.Common.{◌≡◌, ℕ, ◌-◌, ◌<◌, ◌≤◌, Bool, true, false, cond, ltb, List, [], ◌∷◌, length, reverse, drop, set, ℤ, Some, None, Ok, Err, Result, sym, refl, ap, ◌∙◌, arith, get_or, pos}
-use Rattle.std.specs.List.{slice_get}
+use Rattle.std.proofs.Common.{◌≡◌, ℕ, ◌<◌, ◌≤◌, Bool, true, false, cond, ltb, List, [], ◌∷◌, length, drop, set, ℤ, Some, None, Ok, Err, Result, sym, refl, ap, ◌∙◌, arith, get_or, pos}
 use Rattle.std.proofs.lemmas.Bool.Decides.{nat_tests}
-use Rattle.std.proofs.lemmas.List.{length-reverse, get_or-reverse}
-use Rattle.std.proofs.lemmas.Option.{slice_get-get_or}
 use Rattle.machine.specs.View.{Act}
 use Rattle.machine.specs.Acts.{with_ops, with_vars, size, first, last_two, taking_off, taken_off, with_one, with_two, resulting, jumping, pushed, loaded, storing, stored, dropped, changed, joined, branched, tested}
 use Rattle.machine.specs.Values.{apply_unary, apply_binary, compared, is_true}
@@ -32,14 +29,6 @@ off a b x h = by a.ops refl h
         let g = ap (λ (z : Act × Result ℤ Cause). z.1) h in
         let k : b.ops ≡ s = ap (λ (z : Act). z.ops) f in
         record { ops = cc; rest = f ∙ ap (λ (t : List ℤ). with_ops a t) (sym k) }
-
--- a pop that finds one
-pub pops : (a b : Act) (x : ℤ) → Some x ≡ first a.ops → b ≡ with_ops a (drop 1 a.ops) → (b, Ok x) ≡ taken_off a
-pops a b x e f = by a.ops refl e
-  where
-    by : (ops : List ℤ) → a.ops ≡ ops → Some x ≡ first ops → (b, Ok x) ≡ taking_off a ops
-    by [] k e = absurd (cc)
-    by (y ∷ s) k e = let g : b ≡ with_ops a s = f ∙ ap (λ (z : List ℤ). with_ops a (drop 1 z)) k in let h : x ≡ y = cc in rw (g, h) refl
 
 -- a push that has room
 push_goes : (v : ℤ) (a : Act) → size a < 64 → pushed v a ≡ (with_ops a (v ∷ a.ops), Ok Next)
@@ -127,32 +116,7 @@ module _ (i : ℕ) (a : Act) where
       by [] = refl
       by (x ∷ s) = rw (← e) refl
 
--- the last one and the last two, as they lie in the cells
-pub last_is : (ops : List ℤ) → slice_get (reverse ops) (length (reverse ops) - 1) ≡ first ops
-last_is [] = refl
-last_is (v ∷ ops) =
-    let l = length-reverse (v ∷ ops) in
-    let a = slice_get-get_or (reverse (v ∷ ops)) (length (reverse (v ∷ ops)) - 1) (pos 0) (omega arith) in
-    let b = get_or-reverse (v ∷ ops) (length (reverse (v ∷ ops)) - 1) (pos 0) (omega arith) in
-    let i : (length (v ∷ ops) - 1) - (length (reverse (v ∷ ops)) - 1) ≡ 0 = omega arith in
-    a ∙ ap Some (b ∙ rw i refl)
-
-pub two_are : (ops : List ℤ) → 2 ≤ length (reverse ops) → Some (get_or (reverse ops) (length (reverse ops) - 2) (pos 0), get_or (reverse ops) (length (reverse ops) - 1) (pos 0)) ≡ last_two ops
-two_are [] h = absurd (omega arith)
-two_are (y ∷ []) h = absurd (omega arith)
-two_are (y ∷ x ∷ s) h =
-    let l = length-reverse (y ∷ x ∷ s) in
-    let a = get_or-reverse (y ∷ x ∷ s) (length (reverse (y ∷ x ∷ s)) - 2) (pos 0) (omega arith) in
-    let b = get_or-reverse (y ∷ x ∷ s) (length (reverse (y ∷ x ∷ s)) - 1) (pos 0) (omega arith) in
-    let i : (length (y ∷ x ∷ s) - 1) - (length (reverse (y ∷ x ∷ s)) - 2) ≡ 1 = omega arith in
-    let j : (length (y ∷ x ∷ s) - 1) - (length (reverse (y ∷ x ∷ s)) - 1) ≡ 0 = omega arith in
-    rw (a, b, i, j) refl
-
-pub two_short : (ops : List ℤ) → length (reverse ops) < 2 → None ≡ last_two ops
-two_short [] h = refl
-two_short (y ∷ []) h = refl
-two_short (y ∷ x ∷ s) h = let l = length-reverse (y ∷ x ∷ s) in absurd (omega arith)
-
+-- the last one
 pub first_there : (ops : List ℤ) (x : ℤ) → Some x ≡ first ops → ops ≡ x ∷ drop 1 ops
 first_there [] x h = absurd (cc)
 first_there (v ∷ ops) x h = cc

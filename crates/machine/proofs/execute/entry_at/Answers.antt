@@ -1,6 +1,6 @@
 use Rattle.std.proofs.Common.{◌≡◌, ◌<◌, ◌≤◌, None, length, get_or, rules}
 use Rattle.code.specs.Entries.{entry_of}
-use Rattle.machine.proofs.Entries.{entry-out, entry_in, entry-few}
+use Rattle.machine.proofs.Entries.{entry-out, entry_in}
 use Rattle.machine.proofs.execute.entry_at.Goals as goal
 
 pub returns-in_err-get-clause-is : goal.returns-in_err-get-clause-is
@@ -9,11 +9,8 @@ returns-in_err-get-clause-is c =
     let h : length c.args.code.now ≤ c.args.function = search rules in
     rw r (entry-out c.args.code.now c.args.function h)
 
-pub returns : goal.returns
-returns c =
+pub returns-clause-is : goal.returns-clause-is
+returns-clause-is c =
     let h : c.args.function < length c.args.code.now = search rules in
     let e : c.decode_entry.result ≡ entry_of (get_or c.args.code.now c.args.function 0) = search rules in
-    record {
-      is = entry_in c.args.code.now c.args.function c.decode_entry.result h e;
-      few = entry-few _ c.decode_entry.result c.decode_entry.ensures.again;
-    }
+    entry_in c.args.code.now c.args.function c.decode_entry.result h e
