@@ -1,5 +1,5 @@
 // Both sides of the limits on nesting, open loops and cells.
-use crate::tables::{MAIN, Nodes, kind, outcome, table};
+use crate::tables::{MAIN, Nodes, kind, refusal, table};
 use checker::Program;
 use std::alloc::{AllocError, Global};
 use std::test::*;
@@ -44,27 +44,27 @@ fn sums(heap: Global, count: u16) -> Result<Vec<u8>, AllocError> {
 #[test]
 fn nesting(rt: HostRuntime) -> Result<(), Fail> {
     let fits = signs(rt.alloc(), 125)?;
-    assert_eq!(rt; outcome(fits.as_slice()), (0, 0));
+    assert_eq!(rt; refusal(fits.as_slice()), None);
     let deeper = signs(rt.alloc(), 126)?;
-    assert_eq!(rt; outcome(deeper.as_slice()), (13, 128));
+    assert_eq!(rt; refusal(deeper.as_slice()), Some((13, 128)));
     Ok(())
 }
 
 #[test]
 fn open_loops(rt: HostRuntime) -> Result<(), Fail> {
     let fits = loops(rt.alloc(), 16)?;
-    assert_eq!(rt; outcome(fits.as_slice()), (0, 0));
+    assert_eq!(rt; refusal(fits.as_slice()), None);
     let more = loops(rt.alloc(), 17)?;
-    assert_eq!(rt; outcome(more.as_slice()), (17, 33));
+    assert_eq!(rt; refusal(more.as_slice()), Some((17, 33)));
     Ok(())
 }
 
 #[test]
 fn cells(rt: HostRuntime) -> Result<(), Fail> {
     let fits = sums(rt.alloc(), 31)?;
-    assert_eq!(rt; outcome(fits.as_slice()), (0, 0));
+    assert_eq!(rt; refusal(fits.as_slice()), None);
     let more = sums(rt.alloc(), 32)?;
-    assert_eq!(rt; outcome(more.as_slice()), (19, 0));
+    assert_eq!(rt; refusal(more.as_slice()), Some((19, 0)));
     Ok(())
 }
 
@@ -77,7 +77,7 @@ fn largest(rt: HostRuntime) -> Result<(), Fail> {
         nodes.push(kind(32), 0)?;
     }
     let bytes = table(rt.alloc(), &MAIN, nodes.bytes.as_slice())?;
-    assert_eq!(rt; outcome(bytes.as_slice()), (0, 0));
+    assert_eq!(rt; refusal(bytes.as_slice()), None);
     Ok(())
 }
 
@@ -85,7 +85,7 @@ fn largest(rt: HostRuntime) -> Result<(), Fail> {
 #[test]
 fn replaced(rt: HostRuntime) -> Result<(), Fail> {
     let mut program = Program::new();
-    assert_eq!(rt; outcome(program.table()), (0, 0));
+    assert_eq!(rt; refusal(program.table()), None);
     assert_eq!(rt; program.passed().words, 2);
     let fits = loops(rt.alloc(), 16)?;
     assert!(rt; program.replace(fits.as_slice()).is_ok());

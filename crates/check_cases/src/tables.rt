@@ -5,12 +5,9 @@ use std::alloc::{AllocError, Global};
 // The record of a main without variables.
 pub const MAIN: [u8; 6] = [0, 0, 0, 0, 0, 0];
 
-// The refusal's number and place, or 0 and 0 for a table that passes: the tests' values are written so.
-pub fn outcome(bytes: &[u8]) -> (u8, usize) {
-    match check_table(bytes) {
-        Ok(_) => (0, 0),
-        Err(fault) => fault.told(),
-    }
+// The refusal's number and place, or none for a table that passes.
+pub fn refusal(bytes: &[u8]) -> Option<(u8, usize)> {
+    check_table(bytes).err().map(|fault| fault.told())
 }
 
 // The first byte of a node record without aux.

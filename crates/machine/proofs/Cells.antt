@@ -1,5 +1,5 @@
 -- What the cells of an activation do to the lists that they hold.
-use Rattle.std.proofs.Common.{◌≡◌, ℕ, zero, suc, ◌+◌, ◌-◌, ◌<◌, ◌≤◌, true, false, ltb, ◌≢◌, List, [], ◌∷◌, length, get_or, take, drop, reverse, set, ℤ, pos, Ok, Err, refl, ap, arith, length-take, length-drop, take-suc, get_or-drop, get_or-set_other, get_or-set_same}
+use Rattle.std.proofs.Common.{◌≡◌, ℕ, zero, suc, ◌+◌, ◌-◌, ◌<◌, ◌≤◌, true, false, ltb, ◌≢◌, List, [], ◌∷◌, length, get_or, take, drop, reverse, set, ℤ, pos, None, Ok, Err, refl, ap, arith, length-take, length-drop, take-suc, get_or-drop, get_or-set_other, get_or-set_same}
 use lib.Seq.{take-set-le, take-set-lt}
 use Rattle.std.proofs.lemmas.Bool.Decides.{nat_tests}
 use Rattle.std.proofs.lemmas.Grind.{reverse_onto}
@@ -7,7 +7,6 @@ use Rattle.machine.specs.View.{act_of, down, seen}
 use Rattle.machine.specs.Acts.{with_vars, size, pushed}
 use Rattle.machine.specs.declared.state.Activation.{Activation}
 use Rattle.machine.specs.declared.plan.Cause.TheVariants.{BadCode}
-use Rattle.machine.specs.declared.plan.Flow.TheVariants.{Next}
 
 pub length_down : (xs : List ℤ) (lo n : ℕ) → length (down xs lo n) ≡ n
 unfolding down
@@ -78,7 +77,7 @@ module _ (a : Activation) (l : length a.cells ≡ 64) where
       let s = sized in
       let t : ltb (size (seen a)) 64 ≡ false = rw s (grind (arith, nat_tests)) in rw t refl
 
-  pub push_room : (v : ℤ) → a.count < 64 → (act_of (set a.cells a.count v) a.variables (a.count + 1) a.gives a.back, Ok Next) ≡ pushed v (seen a)
+  pub push_room : (v : ℤ) → a.count < 64 → (act_of (set a.cells a.count v) a.variables (a.count + 1) a.gives a.back, Ok None) ≡ pushed v (seen a)
   unfolding seen pushed
   push_room v h =
       let x = p in

@@ -1,5 +1,5 @@
 -- Acts with the last operand, or the last two.
-use Rattle.std.proofs.Common.{◌≡◌, ℕ, ◌<◌, ◌≤◌, Bool, true, false, cond, ltb, List, [], ◌∷◌, length, drop, set, ℤ, Some, None, Ok, Err, Result, sym, refl, ap, ◌∙◌, arith, get_or, pos}
+use Rattle.std.proofs.Common.{◌≡◌, ℕ, ◌<◌, ◌≤◌, Bool, true, false, cond, ltb, List, [], ◌∷◌, length, drop, set, ℤ, Some, None, Ok, Err, Option, Result, sym, refl, ap, ◌∙◌, arith, get_or, pos}
 use Rattle.std.proofs.lemmas.Bool.Decides.{nat_tests}
 use Rattle.machine.specs.View.{Act}
 use Rattle.machine.specs.Acts.{with_ops, with_vars, size, first, last_two, taking_off, taken_off, with_one, with_two, resulting, jumping, pushed, loaded, storing, stored, dropped, changed, joined, branched, tested}
@@ -11,8 +11,6 @@ use Rattle.table.specs.declared.shape.Comparison.{Comparison}
 use Rattle.machine.specs.States.{variable_at}
 use Rattle.machine.specs.declared.plan.Cause.{Cause}
 use Rattle.machine.specs.declared.plan.Cause.TheVariants.{BadCode, ZeroDivisor}
-use Rattle.machine.specs.declared.plan.Flow.{Flow}
-use Rattle.machine.specs.declared.plan.Flow.TheVariants.{Next}
 
 -- What a pop from a to b says, if it gives x.
 pub record Off (a b : Act) (x : ℤ) : Type 0 where
@@ -31,13 +29,13 @@ off a b x h = by a.ops refl h
         record { ops = cc; rest = f ∙ ap (λ (t : List ℤ). with_ops a t) (sym k) }
 
 -- a push that has room
-push_goes : (v : ℤ) (a : Act) → size a < 64 → pushed v a ≡ (with_ops a (v ∷ a.ops), Ok Next)
+push_goes : (v : ℤ) (a : Act) → size a < 64 → pushed v a ≡ (with_ops a (v ∷ a.ops), Ok None)
 unfolding pushed
 push_goes v a h = let t : ltb (size a) 64 ≡ true = grind (arith, nat_tests) in rw t refl
 
 -- acts with the last operand
 module _ (a b : Act) where
-  module _ (f : ℤ → List ℤ → Act × Result Flow Cause) where
+  module _ (f : ℤ → List ℤ → Act × Result (Option ℕ) Cause) where
     one_err : (e : Cause) → (b, Err e) ≡ taken_off a → (b, Err e) ≡ with_one a f a.ops
     one_err e h = by a.ops h
       where
@@ -53,11 +51,11 @@ module _ (a b : Act) where
 
   pub drop_err : (e : Cause) → (b, Err e) ≡ taken_off a → (b, Err e) ≡ dropped a
   unfolding dropped
-  drop_err e h = one_err (λ x s. (with_ops a s, Ok Next)) e h
+  drop_err e h = one_err (λ x s. (with_ops a s, Ok None)) e h
 
-  pub drop_ok : (x : ℤ) → Off a b x → (b, Ok Next) ≡ dropped a
+  pub drop_ok : (x : ℤ) → Off a b x → (b, Ok None) ≡ dropped a
   unfolding dropped
-  drop_ok x h = ap (λ (z : Act). (z, Ok Next)) h.rest ∙ one_ok (λ x s. (with_ops a s, Ok Next)) x h
+  drop_ok x h = ap (λ (z : Act). (z, Ok None)) h.rest ∙ one_ok (λ x s. (with_ops a s, Ok None)) x h
 
   pub test_err : (sense : Bool) (t : ℕ) (e : Cause) → (b, Err e) ≡ taken_off a → (b, Err e) ≡ tested sense t a
   unfolding tested
@@ -70,7 +68,7 @@ module _ (a b : Act) where
 
   pub change_err : (o : Unary) (e : Cause) → (b, Err e) ≡ taken_off a → (b, Err e) ≡ changed o a
   unfolding changed
-  change_err o e h = one_err (λ x s. (with_ops a (apply_unary o x ∷ s), Ok Next)) e h
+  change_err o e h = one_err (λ x s. (with_ops a (apply_unary o x ∷ s), Ok None)) e h
 
   pub change_ok : (o : Unary) (x : ℤ) → Off a b x → size a ≤ 64 → pushed (apply_unary o x) b ≡ changed o a
   unfolding changed
@@ -78,16 +76,16 @@ module _ (a b : Act) where
       let n = ap length h.ops in
       let m = ap (λ (z : Act). length z.vars) h.rest in
       push_goes (apply_unary o x) b (omega arith)
-      ∙ (ap (λ (z : Act). (with_ops z (apply_unary o x ∷ b.ops), Ok Next)) h.rest ∙ one_ok (λ x s. (with_ops a (apply_unary o x ∷ s), Ok Next)) x h)
+      ∙ (ap (λ (z : Act). (with_ops z (apply_unary o x ∷ b.ops), Ok None)) h.rest ∙ one_ok (λ x s. (with_ops a (apply_unary o x ∷ s), Ok None)) x h)
 
   pub store_err : (i : ℕ) (e : Cause) → (b, Err e) ≡ taken_off a → (b, Err e) ≡ stored i a
   unfolding stored
   store_err i e h = one_err (storing i a) e h
 
-  pub store_ok : (i : ℕ) (x : ℤ) → Off a b x → true ≡ ltb i (length a.vars) → (with_vars b (set b.vars i x), Ok Next) ≡ stored i a
+  pub store_ok : (i : ℕ) (x : ℤ) → Off a b x → true ≡ ltb i (length a.vars) → (with_vars b (set b.vars i x), Ok None) ≡ stored i a
   unfolding stored
   store_ok i x h e =
-      let g : (with_vars b (set b.vars i x), Ok Next) ≡ storing i a x b.ops = rw (← e) (rw h.rest refl) in
+      let g : (with_vars b (set b.vars i x), Ok None) ≡ storing i a x b.ops = rw (← e) (rw h.rest refl) in
       g ∙ one_ok (storing i a) x h
 
 -- a variable becomes an operand, and the other way round
@@ -130,7 +128,7 @@ two_there (z ∷ w ∷ s) x y h = let e : ◌≡◌ {A = ℤ × ℤ} (x, y) (w, 
 pub two_counted : (ops : List ℤ) (x y : ℤ) → Some (x, y) ≡ last_two ops → 2 ≤ length ops
 two_counted ops x y h = let e = ap length (two_there ops x y h) in omega arith
 
-two_missing : (a : Act) (f : ℤ → ℤ → List ℤ → Act × Result Flow Cause) (ops : List ℤ) → None ≡ last_two ops → (a, Err BadCode) ≡ with_two a f ops
+two_missing : (a : Act) (f : ℤ → ℤ → List ℤ → Act × Result (Option ℕ) Cause) (ops : List ℤ) → None ≡ last_two ops → (a, Err BadCode) ≡ with_two a f ops
 two_missing a f [] h = refl
 two_missing a f (y ∷ []) h = refl
 two_missing a f (y ∷ x ∷ s) h = absurd (cc)
@@ -145,7 +143,7 @@ module _ (a : Act) where
   branch_few o k sense t h = two_missing a (λ x y s. (with_ops a s, Ok (jumping sense t (compared o k x y)))) a.ops h
 
   module _ (x y : ℤ) (h : Some (x, y) ≡ last_two a.ops) where
-    two_ok : (f : ℤ → ℤ → List ℤ → Act × Result Flow Cause) → f x y (drop 2 a.ops) ≡ with_two a f a.ops
+    two_ok : (f : ℤ → ℤ → List ℤ → Act × Result (Option ℕ) Cause) → f x y (drop 2 a.ops) ≡ with_two a f a.ops
     two_ok f = sym (ap (with_two a f) (two_there a.ops x y h))
 
     pub join_zero : (o : Binary) (k : Kind) → None ≡ apply_binary o k x y → (a, Err ZeroDivisor) ≡ joined o k a
@@ -161,7 +159,7 @@ module _ (a : Act) where
           let q = ap (λ (z : Act). z.ops) r in
           let u = ap (λ (z : Act). length z.ops) r in
           push_goes v b (omega arith)
-          ∙ (ap (λ (z : Act). (with_ops z (v ∷ z.ops), Ok Next)) r
+          ∙ (ap (λ (z : Act). (with_ops z (v ∷ z.ops), Ok None)) r
           ∙ (ap (resulting a (drop 2 a.ops)) e ∙ two_ok (λ x y s. resulting a s (apply_binary o k x y))))
 
       pub branch_ok : (o : Comparison) (k : Kind) (sense : Bool) (t : ℕ) → (b, Ok (jumping sense t (compared o k x y))) ≡ branched o k sense t a

@@ -13,8 +13,6 @@ use Rattle.code.specs.Fields.{node_of}
 use Rattle.code.specs.Word.{instruction_of}
 use Rattle.machine.specs.declared.plan.Cause.{Cause}
 use Rattle.machine.specs.declared.plan.Cause.TheVariants.{BadCode, NoReturn, NoRoom}
-use Rattle.machine.specs.declared.plan.Flow.{Flow}
-use Rattle.machine.specs.declared.plan.Flow.TheVariants.{Next}
 use Rattle.machine.specs.declared.plan.Plan.{Plan}
 use Rattle.machine.specs.declared.plan.Plan.TheVariants.{Went, Over, Fault, Read, Send}
 use Rattle.machine.specs.declared.plan.Site.{Site}
@@ -44,11 +42,11 @@ plans_cond : (s : State) (b : Bool) (x y : State × Plan) → Plans s x → Plan
 plans_cond s true x y p q = p
 plans_cond s false x y p q = q
 
-plans_concluded : (s t : State) (e : Result Flow Cause) (node next : ℕ) → Plans s (concluded e node next t)
-plans_concluded s t (Ok flow) node next = tt
+plans_concluded : (s t : State) (e : Result (Option ℕ) Cause) (node next : ℕ) → Plans s (concluded e node next t)
+plans_concluded s t (Ok target) node next = tt
 plans_concluded s t (Err cause) node next = tt
 
-plans_settled : (f : Act → Act × Result Flow Cause) (node next : ℕ) (s : State) → Plans s (settled f node next s)
+plans_settled : (f : Act → Act × Result (Option ℕ) Cause) (node next : ℕ) (s : State) → Plans s (settled f node next s)
 unfolding settled
 plans_settled f node next s = by s.acts
   where
@@ -254,7 +252,7 @@ pub drop-goes : (v : ℤ) (node next : ℕ) (s : State) → top_last s.acts ≡ 
 unfolding settled dropped
 drop-goes v node next s h = by s.acts h
   where
-    on : (a : Act) (xs : List Act) (ops : List ℤ) → first ops ≡ Some v → (concluded (with_one a (λ x t. (with_ops a t, Ok Next)) ops).1 node next (state ((with_one a (λ x t. (with_ops a t, Ok Next)) ops).0 ∷ xs) s.at)).1 ≡ Went
+    on : (a : Act) (xs : List Act) (ops : List ℤ) → first ops ≡ Some v → (concluded (with_one a (λ x t. (with_ops a t, Ok None)) ops).1 node next (state ((with_one a (λ x t. (with_ops a t, Ok None)) ops).0 ∷ xs) s.at)).1 ≡ Went
     on a xs [] e = let z : ◌≡◌ {A = ℕ} 0 1 = cc in let y : ⊥ = omega arith in absurd y
     on a xs (x ∷ ops) e = refl
 

@@ -11,8 +11,6 @@ use Rattle.table.specs.declared.shape.Format.{Format}
 use Rattle.machine.specs.declared.state.Activation.{Activation}
 use Rattle.machine.specs.declared.plan.Cause.{Cause}
 use Rattle.machine.specs.declared.plan.Cause.TheVariants.{BadCode, TooDeep}
-use Rattle.machine.specs.declared.plan.Flow.{Flow}
-use Rattle.machine.specs.declared.plan.Flow.TheVariants.{Next}
 use Rattle.machine.specs.declared.plan.Plan.{Plan}
 use Rattle.machine.specs.declared.plan.Plan.TheVariants.{Went, Over, Fault}
 use Rattle.machine.specs.View.{Act, State, state, act_of, seen, blank, tops}
@@ -99,14 +97,14 @@ module _ (xs : List Activation) (n : ℕ) (h : 0 < n) (l : n ≤ length xs) wher
   top-free d = ap top_free (tops-at d)
 
   -- an act of the newest activation, concluded
-  pub top-done : (p node next : ℕ) (f : Act → Act × Result Flow Cause) (d y : Activation) (r : Result Flow Cause) → (seen y, r) ≡ f (seen (get_or xs (n - 1) d))
+  pub top-done : (p node next : ℕ) (f : Act → Act × Result (Option ℕ) Cause) (d y : Activation) (r : Result (Option ℕ) Cause) → (seen y, r) ≡ f (seen (get_or xs (n - 1) d))
       → concluded r node next (state (tops (set xs (n - 1) y) n) p) ≡ settled f node next (state (tops xs n) p)
   unfolding settled
   top-done p node next f d y r e =
       ap (λ (z : List Act). concluded r node next (state z p)) (tops-put y)
-      ∙ (ap (λ (z : Act × Result Flow Cause). concluded z.1 node next (state (z.0 ∷ tops xs (n - 1)) p)) e ∙ sym (ap (on_top f node next p) (tops-at d)))
+      ∙ (ap (λ (z : Act × Result (Option ℕ) Cause). concluded z.1 node next (state (z.0 ∷ tops xs (n - 1)) p)) e ∙ sym (ap (on_top f node next p) (tops-at d)))
 
-pub settled_none : (xs : List Activation) (n p node next : ℕ) (f : Act → Act × Result Flow Cause) → n ≡ 0 → (state (tops xs n) p, Fault BadCode node) ≡ settled f node next (state (tops xs n) p)
+pub settled_none : (xs : List Activation) (n p node next : ℕ) (f : Act → Act × Result (Option ℕ) Cause) → n ≡ 0 → (state (tops xs n) p, Fault BadCode node) ≡ settled f node next (state (tops xs n) p)
 unfolding settled
 settled_none xs n p node next f e =
     let t = none_open xs n e in
@@ -155,7 +153,7 @@ module _ (xs : List Activation) (n p node next : ℕ) (h : 0 < n) (l : n ≤ len
             let t : ltb i (length (main_variables (tops xs n))) ≡ false = sym (g ∙ of-main (λ vs. ltb i (length vs))) in
             let u : (here, Fault BadCode node) ≡ storing_main i (Some v) node next here = rw t refl in u ∙ with_last (Some v) e
 
-        pub store_main_there : true ≡ ltb i (length (seen (get_or xs 0 m)).vars) → (z y d2 : Activation) (r : Result Flow Cause) → seen z ≡ with_vars (seen (get_or xs 0 m)) (set (seen (get_or xs 0 m)).vars i v)
+        pub store_main_there : true ≡ ltb i (length (seen (get_or xs 0 m)).vars) → (z y d2 : Activation) (r : Result (Option ℕ) Cause) → seen z ≡ with_vars (seen (get_or xs 0 m)) (set (seen (get_or xs 0 m)).vars i v)
             → n ≤ length (set xs 0 z) → (seen y, r) ≡ dropped (seen (get_or (set xs 0 z) (n - 1) d2)) → (state (tops (set (set xs 0 z) (n - 1) y) n) next, Went) ≡ to_main i node next here
         store_main_there g z y d2 r q k f =
             let t : ltb i (length (main_variables (tops xs n))) ≡ true = sym (g ∙ of-main (λ vs. ltb i (length vs))) in
@@ -181,7 +179,7 @@ module _ (xs : List Activation) (n p node next : ℕ) (h : 0 < n) (l : n ≤ len
             acts_are : tops (set (set xs 0 z) (n - 1) y) n ≡ popped (set_main i v (tops xs n))
             acts_are =
                 tops-put (set xs 0 z) n h k y
-                ∙ (ap (λ (a : Act × Result Flow Cause). a.0 ∷ tops (set xs 0 z) (n - 1)) f
+                ∙ (ap (λ (a : Act × Result (Option ℕ) Cause). a.0 ∷ tops (set xs 0 z) (n - 1)) f
                 ∙ (sym (ap popped (tops-at (set xs 0 z) n h k d2)) ∙ ap popped (put_is ∙ sym set_is)))
 
   -- calls
@@ -271,11 +269,11 @@ module _ (xs : List Activation) (n p node next : ℕ) (h : 0 < n) (l : n ≤ len
         pub return_full : false ≡ ltb (size caller) 64 → (here, Fault BadCode node) ≡ returned node here
         return_full g = with_two _ true (Some v) (sym e) f (bad_is ∙ rw (← g) refl)
 
-        pub return_in : true ≡ ltb (size caller) 64 → (y : Activation) (r : Result Flow Cause) → (seen y, r) ≡ pushed v caller → (state (tops (set xs ((n - 1) - 1) y) (n - 1)) newest.back, Went) ≡ returned node here
+        pub return_in : true ≡ ltb (size caller) 64 → (y : Activation) (r : Result (Option ℕ) Cause) → (seen y, r) ≡ pushed v caller → (state (tops (set xs ((n - 1) - 1) y) (n - 1)) newest.back, Went) ≡ returned node here
         unfolding pushed
         return_in g y r q =
-            let u : pushed v caller ≡ (with_ops caller (v ∷ caller.ops), Ok Next) = rw (← g) refl in
-            let w : seen y ≡ with_ops caller (v ∷ caller.ops) = ap (λ (z : Act × Result Flow Cause). z.0) (q ∙ u) in
+            let u : pushed v caller ≡ (with_ops caller (v ∷ caller.ops), Ok None) = rw (← g) refl in
+            let w : seen y ≡ with_ops caller (v ∷ caller.ops) = ap (λ (z : Act × Result (Option ℕ) Cause). z.0) (q ∙ u) in
             let t = tops-put xs (n - 1) (omega (arith, k)) (omega arith) y in
             with_two _ true (Some v) (sym e) f (ap (λ (z : List Act). (state z newest.back, Went)) (t ∙ ap (λ (a : Act). a ∷ tops xs ((n - 1) - 1)) w) ∙ rw (← g) refl)
 

@@ -11,7 +11,6 @@ use Rattle.code.specs.Word.{instruction_of}
 use Rattle.code.specs.Entries.{entry_of}
 use Rattle.machine.specs.declared.plan.Cause.{Cause}
 use Rattle.machine.specs.declared.plan.Cause.TheVariants.{BadCode, TooDeep, NoReturn}
-use Rattle.machine.specs.declared.plan.Flow.{Flow}
 use Rattle.machine.specs.declared.plan.Plan.{Plan}
 use Rattle.machine.specs.declared.plan.Plan.TheVariants.{Went, Over, Fault, Read, Send}
 use Rattle.machine.specs.declared.plan.Site.{Site}
@@ -23,16 +22,16 @@ abbrev pub site : ℕ → ℕ → Site
 site node next = record { node = node; next = next }
 
 -- How an act of the newest activation is concluded; a fault leaves the machine as it is.
-abbrev pub concluded : Result Flow Cause → ℕ → ℕ → State → State × Plan
-concluded (Ok flow) node next s = (state s.acts (after flow next), Went)
+abbrev pub concluded : Result (Option ℕ) Cause → ℕ → ℕ → State → State × Plan
+concluded (Ok target) node next s = (state s.acts (after target next), Went)
 concluded (Err cause) node next s = (s, Fault cause node)
 
 -- An act of the newest activation.
-abbrev pub on_top : (Act → Act × Result Flow Cause) → ℕ → ℕ → ℕ → List Act → State × Plan
+abbrev pub on_top : (Act → Act × Result (Option ℕ) Cause) → ℕ → ℕ → ℕ → List Act → State × Plan
 on_top f node next p [] = (state [] p, Fault BadCode node)
 on_top f node next p (a ∷ xs) = concluded (f a).1 node next (state ((f a).0 ∷ xs) p)
 
-unfoldable pub settled : (Act → Act × Result Flow Cause) → ℕ → ℕ → State → State × Plan
+unfoldable pub settled : (Act → Act × Result (Option ℕ) Cause) → ℕ → ℕ → State → State × Plan
 settled f node next s = on_top f node next s.at s.acts
 
 -- Main's activation stands last.

@@ -5,7 +5,7 @@ ghost use Rattle.machine.specs.Acts.{pushed, taken_off, loaded, stored, dropped,
 ghost use Rattle.machine.specs.States.{args, variable_at};
 
 use crate::operate::{apply_binary, apply_unary, compare, jump_if};
-use crate::plan::{Cause, Flow};
+use crate::plan::Cause;
 use crate::state::Activation;
 use code::Instruction;
 use number::{Int, fold, is_true};
@@ -95,7 +95,7 @@ impl Activation {
 }
 
 impl Activation {
-    pub fn push(&mut self, value: i16) -> Result<Flow, Cause>
+    pub fn push(&mut self, value: i16) -> Result<Option<u32>, Cause>
         ensures { (seen self.new, result) ≡ pushed value (seen self.old) }
     {
         if self.count >= 64 {
@@ -103,7 +103,7 @@ impl Activation {
         }
         self.cells[self.count] = value;
         self.count += 1;
-        Ok(Flow::Next)
+        Ok(None)
     }
 
     // The last operand, taken off.
@@ -115,14 +115,14 @@ impl Activation {
         Ok(value)
     }
 
-    fn load(&mut self, slot: usize) -> Result<Flow, Cause>
+    fn load(&mut self, slot: usize) -> Result<Option<u32>, Cause>
         ensures { (seen self.new, result) ≡ loaded slot (seen self.old) }
     {
         let value = self.variable(slot).ok_or(Cause::BadCode)?;
         self.push(value)
     }
 
-    fn store(&mut self, slot: usize) -> Result<Flow, Cause>
+    fn store(&mut self, slot: usize) -> Result<Option<u32>, Cause>
         ensures { (seen self.new, result) ≡ stored slot (seen self.old) }
     {
         if !self.has(slot) {
@@ -130,17 +130,17 @@ impl Activation {
         }
         let value = self.pop()?;
         self.assign(slot, value);
-        Ok(Flow::Next)
+        Ok(None)
     }
 
-    pub fn discard(&mut self) -> Result<Flow, Cause>
+    pub fn discard(&mut self) -> Result<Option<u32>, Cause>
         ensures { (seen self.new, result) ≡ dropped (seen self.old) }
     {
         self.pop()?;
-        Ok(Flow::Next)
+        Ok(None)
     }
 
-    fn change(&mut self, operator: Unary) -> Result<Flow, Cause>
+    fn change(&mut self, operator: Unary) -> Result<Option<u32>, Cause>
         ensures { (seen self.new, result) ≡ changed operator (seen self.old) }
     {
         let value = self.pop()?;
@@ -148,7 +148,7 @@ impl Activation {
     }
 
     // A zero divisor leaves the operands as they are.
-    fn join(&mut self, operator: Binary, kind: Kind) -> Result<Flow, Cause>
+    fn join(&mut self, operator: Binary, kind: Kind) -> Result<Option<u32>, Cause>
         ensures { (seen self.new, result) ≡ joined operator kind (seen self.old) }
     {
         let (x, y) = self.last_two().ok_or(Cause::BadCode)?;
@@ -163,7 +163,7 @@ impl Activation {
         kind: Kind,
         sense: bool,
         target: u32,
-    ) -> Result<Flow, Cause>
+    ) -> Result<Option<u32>, Cause>
         ensures { (seen self.new, result) ≡ branched comparison kind sense target (seen self.old) }
     {
         let (x, y) = self.last_two().ok_or(Cause::BadCode)?;
@@ -171,7 +171,7 @@ impl Activation {
         Ok(jump_if(sense, target, compare(comparison, kind, x, y)))
     }
 
-    fn test(&mut self, sense: bool, target: u32) -> Result<Flow, Cause>
+    fn test(&mut self, sense: bool, target: u32) -> Result<Option<u32>, Cause>
         ensures { (seen self.new, result) ≡ tested sense target (seen self.old) }
     {
         let value = self.pop()?;
@@ -179,7 +179,7 @@ impl Activation {
     }
 
     // What an instruction does that concerns this activation alone.
-    pub fn act(&mut self, instruction: Instruction) -> Result<Flow, Cause>
+    pub fn act(&mut self, instruction: Instruction) -> Result<Option<u32>, Cause>
         ensures { (seen self.new, result) ≡ act_by instruction (seen self.old) }
     {
         match instruction {
@@ -194,7 +194,7 @@ impl Activation {
                 comparison, kind, sense, target,
             ),
             Instruction::Holds(sense, target) => self.test(sense, target),
-            Instruction::Jump(_, target) => Ok(Flow::Aim(target)),
+            Instruction::Jump(_, target) => Ok(Some(target)),
             _ => Err(Cause::BadCode),
         }
     }

@@ -4,7 +4,7 @@ ghost use Rattle.machine.specs.View.{State, act_of, seen, view};
 ghost use Rattle.machine.specs.Acts.{pushed, dropped, act_by};
 ghost use Rattle.machine.specs.States.{concluded, settled, from_main, to_main, has_result, entry_at, called, left, returned, to_read, to_send, run, fetched, main_entry, advanced, undone};
 
-use crate::plan::{Cause, Flow, Plan, Site};
+use crate::plan::{Cause, Plan, Site, after};
 use crate::state::{Activation, Core};
 use code::{Entry, Instruction, decode, decode_entry, node_of};
 use table::{Format, Kind, Scope};
@@ -18,20 +18,13 @@ fn entry_at(code: &[u64], function: usize) -> Option<Entry>
 }
 
 // Main's entry word, which has neither a result nor parameters.
+#[tactic(auto, unfolding(crate::specs::States::main_entry))]
 fn main_entry(code: &[u64]) -> Option<Entry>
     ensures is { result ≡ main_entry code.now }
     ensures few { IfSome result (λ e. (e.variables ≤ 32) × (e.parameters ≡ 0)) }
 {
-    // By `filter` the answer would be a closure's, with a contract of its own to say what these two tests say.
     let found = entry_at(code, 0)?;
-    if found.result.is_some() {
-        return None;
-    }
-    if found.parameters == 0 {
-        Some(found)
-    } else {
-        None
-    }
+    (found.result.is_none() && found.parameters == 0).then_some(found)
 }
 
 // A new activation with its cells, in which the arguments stand first.
@@ -70,21 +63,23 @@ fn to_send(last: Option<i16>, format: Format, site: Site) -> Plan
 
 // `act`, `receive` and `release` differ in the act alone. As one function that takes the act as a closure they would be
 // no plainer: its contract would have to speak of every closure's effect on what an activation stands for.
+// That main is open is asked for and is no fact of the type, since the same machine rests before its first step. A fault's
+// cause and node are two values: the act tells the one and the word the other.
 impl Core {
-    fn conclude(&mut self, effect: Result<Flow, Cause>, site: Site) -> Plan
+    fn conclude(&mut self, effect: Result<Option<u32>, Cause>, site: Site) -> Plan
         ensures { (view self.new, result) ≡ concluded effect site.node site.next (view self.old) }
     {
         match effect {
             Err(cause) => Plan::Fault(cause, site.node),
-            Ok(flow) => {
-                self.at = flow.after(site.next);
+            Ok(target) => {
+                self.at = after(target, site.next);
                 Plan::Went
             }
         }
     }
 
-    // Here and below `_read` stands since the prover follows an element that is changed in a struct with a fact of its
-    // own only where one was read before.
+    // Here and below `_read` stands since the prover follows the change of an element, in a struct with a fact of its own,
+    // only where one was read before.
     fn act(&mut self, instruction: Instruction, site: Site) -> Plan
         requires { 0 < self.old.depth }
         ensures { (view self.new, result) ≡ settled (act_by instruction) site.node site.next (view self.old) }

@@ -3,7 +3,6 @@ ghost use Rattle.std.specs.Prelude.{◌≡◌};
 ghost use Rattle.machine.specs.Values.{apply_unary, binary_in, apply_binary, compared_in, compared};
 ghost use Rattle.machine.specs.Acts.{jumping};
 
-use crate::plan::Flow;
 use number::{Byte, Int, NumberKind};
 use table::{Binary, Comparison, Kind, Unary};
 
@@ -65,13 +64,10 @@ pub fn compare(comparison: Comparison, kind: Kind, x: i16, y: i16) -> bool
     }
 }
 
-// Where a jump leads that is made when the truth is the sense.
-pub fn jump_if(sense: bool, target: u32, truth: bool) -> Flow
+// Where a jump leads that is made when the truth is the sense, if it is made. Sense and target are two fields of a word, and
+// no value of their own: here alone they come together, and what is left of them is the target.
+pub fn jump_if(sense: bool, target: u32, truth: bool) -> Option<u32>
     ensures { result ≡ jumping sense target truth }
 {
-    if truth == sense {
-        Flow::Aim(target)
-    } else {
-        Flow::Next
-    }
+    (truth == sense).then_some(target)
 }

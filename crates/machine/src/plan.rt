@@ -17,6 +17,7 @@ pub enum Cause {
 }
 
 impl Cause {
+    // The cause's number in docs/REFUSALS.md: a method, since a number made by From would not say what it is.
     pub fn number(self) -> u8
         ensures { result ≡ cause_number self }
     {
@@ -31,22 +32,14 @@ impl Cause {
     }
 }
 
-// Where a machine goes on after an act of one activation: behind the word, or elsewhere.
-#[derive(Clone, Copy)]
-pub enum Flow {
-    Next,
-    Aim(u32),
-}
-
-impl Flow {
-    // The address, after a word behind which the next one stands at `next`.
-    pub fn after(self, next: usize) -> usize
-        ensures { result ≡ after self next }
-    {
-        match self {
-            Flow::Next => next,
-            Flow::Aim(target) => target as usize,
-        }
+// Where a machine goes on after an act of one activation: at the address that the act tells, if it jumps, else behind
+// the word, where the next one stands at `next`.
+pub fn after(target: Option<u32>, next: usize) -> usize
+    ensures { result ≡ after target next }
+{
+    match target {
+        None => next,
+        Some(address) => address as usize,
     }
 }
 

@@ -4,7 +4,8 @@ ghost use Rattle.std.specs.Prelude.{◌≤◌};
 use crate::plan::Latch;
 
 // One call of a function that has not yet closed. Its variables are the first cells, its operands the next. The counts
-// stand beside the cells since a controller has no heap and C hosts read this layout.
+// stand beside the cells: the header for C hosts (`unfinished/include`) names these fields, and an activation is Copy,
+// which the toolchain's vector is not.
 #[derive(Clone, Copy)]
 pub struct Activation {
     pub cells: [i16; 64],
@@ -16,7 +17,7 @@ pub struct Activation {
 }
 
 // The activations, main's first, how many are open, and the address of the next word. None is open before the first
-// step. The number stands beside the table for the same two reasons.
+// step. `depth` stands beside the table, since the header names both.
 #[derive(Drop)]
 pub struct Core {
     pub activations: [Activation; 32],

@@ -3,7 +3,7 @@ use code::{Entry, Instruction, encode, encode_entry};
 use line::Line;
 use machine::{Machine, Outcome};
 
-// What the last step came to; a fault by its cause's number, and its node.
+// What the last step came to; a fault by its cause's number, which is what the rows write, and its node.
 #[derive(Clone, Copy, Debug, PartialEq, Eq)]
 pub enum Answer {
     Goes,
