@@ -64,8 +64,8 @@ pub fn compare(comparison: Comparison, kind: Kind, x: i16, y: i16) -> bool
     }
 }
 
-// Where a jump leads that is made when the truth is the sense, if it is made. Sense and target are two fields of a word, and
-// no value of their own: here alone they come together, and what is left of them is the target.
+// Where a jump leads that is made when the truth is the sense, if it is made. Sense and target stay two parameters, as they
+// are two fields of the instruction: a struct for them would be made at each of the two calls and taken apart here.
 pub fn jump_if(sense: bool, target: u32, truth: bool) -> Option<u32>
     ensures { result ≡ jumping sense target truth }
 {

@@ -52,7 +52,7 @@ pub struct Site {
 
 // What a step comes to as far as no line is needed. A read and a send still have to be performed; they tell where
 // their word stands, and a send its operand. It is no `Result<Plan, Fault>`: so written, with faults handed
-// up by `?`, a step took one and a half times as long (measured in five rounds of alternating runs).
+// up by `?`, a step took 1.2 to 2.4 times as long (five rounds of alternating runs, under load).
 #[derive(Clone, Copy)]
 pub enum Plan {
     Went,
