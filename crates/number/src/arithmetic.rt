@@ -12,11 +12,12 @@ pub fn fold<K: NumberKind>(n: i32) -> i16
     ensures value { result ≡ folded K.NumberKind.kind n }
     ensures law { Folds K.NumberKind.kind n result }
 {
-    let rest = n.rem_euclid(K::SPAN);
+    let span = K::SPAN;
+    let rest = n.rem_euclid(span);
     if rest <= K::HIGH {
         rest as i16
     } else {
-        (rest - K::SPAN) as i16
+        (rest - span) as i16
     }
 }
 

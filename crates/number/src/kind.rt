@@ -4,8 +4,8 @@ ghost use Rattle.number.specs.Number.{Kind, Cells, Folding, int, byte};
 // An impl names the proof of a law, and names of this crate only what stands in specs/.
 ghost use Rattle.number.specs.Folding.{every_kind_folds, int_cells, byte_cells};
 
-// A kind of number: its lowest and its highest number, and how many there are. Each impl proves the last three members:
-// that the constants are the kind's, that its numbers fit a cell, and the law of folding.
+// A kind of number: its lowest and its highest number, and how many there are. Each impl proves the members `constants`,
+// that the constants are the kind's, `cells`, that its numbers fit a cell, and `folding`, the law of folding.
 pub trait NumberKind {
     const LOW: i32;
 
@@ -26,6 +26,25 @@ pub trait NumberKind {
     ghost cells: { Cells kind };
 
     ghost folding: { Folding kind };
+
+    // The three numbers as calls, for code over any kind; no impl gives them another body.
+    final fn lowest() -> i32
+        ensures { result ≡ kind.low }
+    {
+        Self::LOW
+    }
+
+    final fn highest() -> i32
+        ensures { result ≡ kind.high }
+    {
+        Self::HIGH
+    }
+
+    final fn count() -> i32
+        ensures { result ≡ pos kind.span }
+    {
+        Self::SPAN
+    }
 }
 
 pub struct Int;

@@ -9,7 +9,7 @@ returns-then-rest-HIGH g c =
     let k = g.K.NumberKind in
     let l = k.cells in
     let h : c.HIGH.result ≡ k.kind.high = c.HIGH.ensures ∙ k.constants.1 in
-    let s : c.SPAN.result ≡ pos k.kind.span = c.SPAN.ensures ∙ k.constants.2 in
+    let s : c.SPAN-span.result ≡ pos k.kind.span = c.SPAN-span.ensures ∙ k.constants.2 in
     let e : c.rem_euclid-rest.result ≡ int_rem_euclid c.args.n (pos k.kind.span) = search (rules, to_z-of_z) in
     let r = told k.kind k.folding c.args.n c.rem_euclid-rest.result _ (omega (arith, ints)) (fold_rest k.kind l c.args.n c.rem_euclid-rest.result e (omega (arith, ints))) in
     record { value = r.0; law = r.1 }
@@ -19,8 +19,7 @@ returns-else-rest-HIGH g c =
     let k = g.K.NumberKind in
     let l = k.cells in
     let h : c.HIGH.result ≡ k.kind.high = c.HIGH.ensures ∙ k.constants.1 in
-    let s : c.SPAN.result ≡ pos k.kind.span = c.SPAN.ensures ∙ k.constants.2 in
-    let t : c.SPAN-else-rest-HIGH.result ≡ pos k.kind.span = c.SPAN-else-rest-HIGH.ensures ∙ k.constants.2 in
+    let s : c.SPAN-span.result ≡ pos k.kind.span = c.SPAN-span.ensures ∙ k.constants.2 in
     let e : c.rem_euclid-rest.result ≡ int_rem_euclid c.args.n (pos k.kind.span) = search (rules, to_z-of_z) in
     let r = told k.kind k.folding c.args.n (c.rem_euclid-rest.result -ℤ pos k.kind.span) _ (omega (arith, ints)) (fold_less k.kind l c.args.n c.rem_euclid-rest.result e (omega (arith, ints))) in
     record { value = r.0; law = r.1 }
