@@ -10,7 +10,7 @@ use Rattle.number.proofs.Feeds.{Told, found, missing, tells-feed}
 use Rattle.number.proofs.Readings.{eight, settled}
 use Rattle.machine.specs.Values.{finds}
 
-finds-eight : (q : Format) (bytes : List ℕ) → finds q (take 8 bytes) ≡ finds q bytes
+pub finds-eight : (q : Format) (bytes : List ℕ) → finds q (take 8 bytes) ≡ finds q bytes
 unfolding finds
 finds-eight Integer bytes = sym (eight int bytes (reading int bytes) refl)
 finds-eight ByteText bytes = sym (eight byte bytes (reading byte bytes) refl)

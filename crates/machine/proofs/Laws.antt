@@ -41,8 +41,8 @@ latch_of_lem : (d : Plan) → latch_of d ≡ latch_for (outcome_of d)
 latch_of_lem Went = refl
 latch_of_lem Over = refl
 latch_of_lem (Fault c n) = refl
-latch_of_lem (Read q at) = refl
-latch_of_lem (Send q v at) = refl
+latch_of_lem (Read q node next) = refl
+latch_of_lem (Send q v node next) = refl
 
 other : {B : Type 0} (o : Outcome) → (o ≡ Waits → ⊥) → o ≡ Waits → B
 other o f e = absurd (f e)
@@ -51,8 +51,8 @@ not_waits : (d : Plan) → outcome_of d ≡ Waits → ⊥
 not_waits Went e = let z : ◌≡◌ {A = ℕ} 0 1 = cc in omega arith
 not_waits Over e = let z : ◌≡◌ {A = ℕ} 0 1 = cc in omega arith
 not_waits (Fault c n) e = let z : ◌≡◌ {A = ℕ} 0 1 = cc in omega arith
-not_waits (Read q at) e = let z : ◌≡◌ {A = ℕ} 0 1 = cc in omega arith
-not_waits (Send q v at) e = let z : ◌≡◌ {A = ℕ} 0 1 = cc in omega arith
+not_waits (Read q node next) e = let z : ◌≡◌ {A = ℕ} 0 1 = cc in omega arith
+not_waits (Send q v node next) e = let z : ◌≡◌ {A = ℕ} 0 1 = cc in omega arith
 
 drop_more : (n : ℕ) (ws bytes : List ℕ) → n ≤ length ws → drop n (ws ++ bytes) ≡ drop n ws ++ bytes
 drop_more zero ws bytes h = refl
@@ -129,16 +129,16 @@ module _ (w : World) where
   performs o s Went h = plain s Went
   performs o s Over h = plain s Over
   performs o s (Fault c n) h = plain s (Fault c n)
-  performs o s (Read q at) h =
-      reads s at.node at.next o h.1 (finds q w.waiting) (λ bytes. finds q (w.waiting ++ bytes)) (λ bytes k. finds_more q w.waiting bytes k) (λ v n e. found_inside q w.waiting v n e)
-  performs o s (Send q v at) h = sends s at.node at.next v (text_of q v) h.1 (leb (length (text_of q v)) w.room) refl
+  performs o s (Read q node next) h =
+      reads s node next o h.1 (finds q w.waiting) (λ bytes. finds q (w.waiting ++ bytes)) (λ bytes k. finds_more q w.waiting bytes k) (λ v n e. found_inside q w.waiting v n e)
+  performs o s (Send q v node next) h = sends s node next v (text_of q v) h.1 (leb (length (text_of q v)) w.room) refl
 
   goes : (code : List ℕ) (l : Latch) → w.latch ≡ l → Laws w (stepping l code w) (λ bytes. stepping l code (fed bytes w))
   goes code Open o = performs o (advanced code w.machine).0 (advanced code w.machine).1 (ready_advanced code w.machine)
   goes code Closed o = record { waits = λ e. let z : ◌≡◌ {A = ℕ} 0 1 = cc in let y : ⊥ = omega arith in absurd y; more = λ bytes k. refl; moves = still w _ refl refl refl; latch = o }
   goes code (Broken c n) o = record { waits = λ e. let z : ◌≡◌ {A = ℕ} 0 1 = cc in let y : ⊥ = omega arith in absurd y; more = λ bytes k. refl; moves = still w _ refl refl refl; latch = o }
 
-step-laws : (code : List ℕ) (w : World) (x : World × Outcome) → x ≡ stepped code w → StepLaws code w x
+pub step-laws : (code : List ℕ) (w : World) (x : World × Outcome) → x ≡ stepped code w → StepLaws code w x
 unfolding stepped
 step-laws code w x e =
     let a = goes w code w.latch refl in

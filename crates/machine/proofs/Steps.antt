@@ -15,7 +15,6 @@ use Rattle.machine.specs.declared.plan.Cause.{Cause}
 use Rattle.machine.specs.declared.plan.Cause.TheVariants.{BadCode, NoReturn, NoRoom}
 use Rattle.machine.specs.declared.plan.Plan.{Plan}
 use Rattle.machine.specs.declared.plan.Plan.TheVariants.{Went, Over, Fault, Read, Send}
-use Rattle.machine.specs.declared.plan.Site.{Site}
 use Rattle.machine.specs.declared.plan.Latch.{Latch}
 use Rattle.machine.specs.declared.plan.Latch.TheVariants.{Open, Ended as Closed, Failed as Broken}
 use Rattle.machine.specs.declared.plan.Outcome.{Outcome}
@@ -32,8 +31,8 @@ abbrev pub Planned : State → State → Plan → Type 0
 Planned s s' Went = Unit {0}
 Planned s s' Over = Unit {0}
 Planned s s' (Fault c n) = Unit {0}
-Planned s s' (Read q at) = (s' ≡ s) × (top_free s.acts ≡ true)
-Planned s s' (Send q v at) = (s' ≡ s) × (top_last s.acts ≡ Some v)
+Planned s s' (Read q node next) = (s' ≡ s) × (top_free s.acts ≡ true)
+Planned s s' (Send q v node next) = (s' ≡ s) × (top_last s.acts ≡ Some v)
 
 abbrev Plans : State → State × Plan → Type 0
 Plans s p = Planned s p.0 p.1
@@ -142,19 +141,19 @@ plans_fetched code s = plans_cond s (ltb s.at (length code)) _ _ (by (instructio
     by (Some i) = plans_run i (node_of (get_or code s.at 0)) (s.at + 1) code s
 
 -- a later step that comes to a read leaves the machine as it was
-kept : (s s' : State) (q : Format) (at : Site) (p : State × Plan) → (s', Read q at) ≡ p → Plans s p → s' ≡ s
-kept s s' q at p e h = let g : Plans s (s', Read q at) = subst (λ (z : State × Plan). Plans s z) (sym e) h in g.0
+kept : (s s' : State) (q : Format) (n m : ℕ) (p : State × Plan) → (s', Read q n m) ≡ p → Plans s p → s' ≡ s
+kept s s' q n m p e h = let g : Plans s (s', Read q n m) = subst (λ (z : State × Plan). Plans s z) (sym e) h in g.0
 
 -- where a wait is undone
-pub undo_is : (code : List ℕ) (xs : List Activation) (n p : ℕ) (s' : State) (q : Format) (at : Site) → (s', Read q at) ≡ advanced code (state (tops xs n) p)
+pub undo_is : (code : List ℕ) (xs : List Activation) (n p : ℕ) (s' : State) (q : Format) (a b : ℕ) → (s', Read q a b) ≡ advanced code (state (tops xs n) p)
     → undone (then_some (eqb n 0) p) s' ≡ state (tops xs n) p
-undo_is code xs n p s' q at e = by n e
+undo_is code xs n p s' q a b e = by n e
   where
-    by : (m : ℕ) → (s', Read q at) ≡ advanced code (state (tops xs m) p) → undone (then_some (eqb m 0) p) s' ≡ state (tops xs m) p
+    by : (m : ℕ) → (s', Read q a b) ≡ advanced code (state (tops xs m) p) → undone (then_some (eqb m 0) p) s' ≡ state (tops xs m) p
     by zero e = sym (ap (λ (z : List Act). state z p) (none_open xs 0 refl))
     by (suc m) e =
         let z : eqb (suc m) 0 ≡ false = grind (arith, nat_tests) in
-        rw z (kept (state (tops xs (suc m)) p) s' q at (fetched code (state (tops xs (suc m)) p)) (e ∙ sym (later_step code xs (suc m) p (omega arith))) (plans_fetched code (state (tops xs (suc m)) p)))
+        rw z (kept (state (tops xs (suc m)) p) s' q a b (fetched code (state (tops xs (suc m)) p)) (e ∙ sym (later_step code xs (suc m) p (omega arith))) (plans_fetched code (state (tops xs (suc m)) p)))
 
 -- a machine that has stopped
 pub step-ended : (code : List ℕ) (s : State) (l : Latch) (ws ss : List ℕ) (r : ℕ) → l ≡ Closed → (world s l ws ss r, Ended) ≡ stepped code (world s l ws ss r)
@@ -175,13 +174,13 @@ step_by code s l ws ss r s' d x o e f =
 pub finished_is : (s : State) (d : Plan) (t : State) (l : Latch) (o : Outcome) (ws ss : List ℕ) (r : ℕ) → t ≡ s → l ≡ latch_of d → o ≡ outcome_of d → (world t l ws ss r, o) ≡ finished (s, d) ws ss r
 finished_is s d t l o ws ss r e f g = rw (e, f, g) refl
 
-pub performed-rest : (s s' : State) (d : Plan) (ws ss : List ℕ) (r : ℕ) → ((q : Format) (at : Site) → d ≡ Read q at → ⊥) → ((q : Format) (v : ℤ) (at : Site) → d ≡ Send q v at → ⊥)
+pub performed-rest : (s s' : State) (d : Plan) (ws ss : List ℕ) (r : ℕ) → ((q : Format) (a b : ℕ) → d ≡ Read q a b → ⊥) → ((q : Format) (v : ℤ) (a b : ℕ) → d ≡ Send q v a b → ⊥)
     → finished (s', d) ws ss r ≡ performed s s' d ws ss r
 performed-rest s s' Went ws ss r f g = refl
 performed-rest s s' Over ws ss r f g = refl
 performed-rest s s' (Fault c n) ws ss r f g = refl
-performed-rest s s' (Read q at) ws ss r f g = absurd (f q at refl)
-performed-rest s s' (Send q v at) ws ss r f g = absurd (g q v at refl)
+performed-rest s s' (Read q a b) ws ss r f g = absurd (f q a b refl)
+performed-rest s s' (Send q v a b) ws ss r f g = absurd (g q v a b refl)
 
 -- a take of what was found
 pub removed : (t : Result (Unit {0}) LineRefusal) (n : ℕ) (ws : List ℕ) (h : ℕ) (ws' : List ℕ) (h' : ℕ) → Removed t n ws h ws' h' → n ≤ length ws → (ws' ≡ drop n ws) × Held h h' ws ws'
@@ -222,8 +221,8 @@ ready_from : (s s' : State) (d : Plan) → Planned s s' d → Planned s' s' d
 ready_from s s' Went h = tt
 ready_from s s' Over h = tt
 ready_from s s' (Fault c n) h = tt
-ready_from s s' (Read q at) h = (refl, ap (λ (z : State). top_free z.acts) h.0 ∙ h.1)
-ready_from s s' (Send q v at) h = (refl, ap (λ (z : State). top_last z.acts) h.0 ∙ h.1)
+ready_from s s' (Read q node next) h = (refl, ap (λ (z : State). top_free z.acts) h.0 ∙ h.1)
+ready_from s s' (Send q v node next) h = (refl, ap (λ (z : State). top_last z.acts) h.0 ∙ h.1)
 
 ready_fetched : (code : List ℕ) (s : State) → Ready (fetched code s)
 ready_fetched code s = ready_from s (fetched code s).0 (fetched code s).1 (plans_fetched code s)

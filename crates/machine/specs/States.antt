@@ -13,13 +13,8 @@ use Rattle.machine.specs.declared.plan.Cause.{Cause}
 use Rattle.machine.specs.declared.plan.Cause.TheVariants.{BadCode, TooDeep, NoReturn}
 use Rattle.machine.specs.declared.plan.Plan.{Plan}
 use Rattle.machine.specs.declared.plan.Plan.TheVariants.{Went, Over, Fault, Read, Send}
-use Rattle.machine.specs.declared.plan.Site.{Site}
 use Rattle.machine.specs.View.{Act, State, state}
 use Rattle.machine.specs.Acts.{with_ops, with_vars, after, size, first, pushed, dropped, act_by}
-
--- a word of a node, with the next one at `next`
-abbrev pub site : ℕ → ℕ → Site
-site node next = record { node = node; next = next }
 
 -- How an act of the newest activation is concluded; a fault leaves the machine as it is.
 abbrev pub concluded : Result (Option ℕ) Cause → ℕ → ℕ → State → State × Plan
@@ -144,12 +139,12 @@ top_free [] = false
 top_free (a ∷ xs) = nat_lt (size a) 64
 
 abbrev pub to_read : Bool → Format → ℕ → ℕ → Plan
-to_read true q node next = Read q (site node next)
+to_read true q node next = Read q node next
 to_read false q node next = Fault BadCode node
 
 abbrev pub to_send : Option ℤ → Format → ℕ → ℕ → Plan
 to_send None q node next = Fault BadCode node
-to_send (Some v) q node next = Send q v (site node next)
+to_send (Some v) q node next = Send q v node next
 
 -- One instruction, that of a node; the next word is at `next`.
 abbrev pub run : Instruction → ℕ → ℕ → List ℕ → State → State × Plan

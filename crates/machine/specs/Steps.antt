@@ -30,15 +30,15 @@ abbrev pub latch_of : Plan → Latch
 latch_of Went = Open
 latch_of Over = Closed
 latch_of (Fault c n) = Broken c n
-latch_of (Read q at) = Open
-latch_of (Send q v at) = Open
+latch_of (Read q node next) = Open
+latch_of (Send q v node next) = Open
 
 abbrev pub outcome_of : Plan → Outcome
 outcome_of Went = Stepped
 outcome_of Over = Ended
 outcome_of (Fault c n) = Failed c n
-outcome_of (Read q at) = Stepped
-outcome_of (Send q v at) = Stepped
+outcome_of (Read q node next) = Stepped
+outcome_of (Send q v node next) = Stepped
 
 abbrev pub finished : State × Plan → List ℕ → List ℕ → ℕ → World × Outcome
 finished p waiting sent room = (world p.0 (latch_of p.1) waiting sent room, outcome_of p.1)
@@ -59,8 +59,8 @@ abbrev pub performed : State → State → Plan → List ℕ → List ℕ → �
 performed before s Went waiting sent room = finished (s, Went) waiting sent room
 performed before s Over waiting sent room = finished (s, Over) waiting sent room
 performed before s (Fault c n) waiting sent room = finished (s, Fault c n) waiting sent room
-performed before s (Read q at) waiting sent room = received before s at.node at.next (finds q waiting) waiting sent room
-performed before s (Send q v at) waiting sent room = delivered s at.node at.next (text_of q v) waiting sent room
+performed before s (Read q node next) waiting sent room = received before s node next (finds q waiting) waiting sent room
+performed before s (Send q v node next) waiting sent room = delivered s node next (text_of q v) waiting sent room
 
 abbrev pub stepping : Latch → List ℕ → World → World × Outcome
 stepping Open code w = performed w.machine (advanced code w.machine).0 (advanced code w.machine).1 w.waiting w.sent w.room

@@ -46,7 +46,7 @@ fn to_read(free: bool, format: Format, site: Site) -> Plan
     ensures { result ≡ to_read free format site.node site.next }
 {
     if free {
-        Plan::Read(format, site)
+        Plan::Read(format, site.node, site.next)
     } else {
         Plan::Fault(Cause::BadCode, site.node)
     }
@@ -57,7 +57,7 @@ fn to_send(last: Option<i16>, format: Format, site: Site) -> Plan
 {
     match last {
         None => Plan::Fault(Cause::BadCode, site.node),
-        Some(value) => Plan::Send(format, value, site),
+        Some(value) => Plan::Send(format, value, site.node, site.next),
     }
 }
 
@@ -143,6 +143,8 @@ impl Core {
         Plan::Went
     }
 
+    // Inlined, since a plan that a call of this function hands back lies in memory, and so would every other step's.
+    #[inline(always)]
     fn call(&mut self, function: u32, site: Site, code: &[u64]) -> Plan
         requires { 0 < self.old.depth }
         ensures { (view self.new, result) ≡ called code.now function site.node site.next (view self.old) }

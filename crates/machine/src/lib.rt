@@ -9,5 +9,5 @@ mod perform;
 mod plan;
 mod state;
 
-pub use plan::{Cause, Outcome};
+pub use plan::{Cause, Outcome, Site};
 pub use state::Machine;

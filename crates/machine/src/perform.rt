@@ -5,7 +5,7 @@ ghost use Rattle.machine.specs.States.{main_variables};
 ghost use Rattle.machine.specs.Steps.{world, latch_of, outcome_of, stepped, StepLaws, Held};
 
 use crate::message::{compose, find};
-use crate::plan::{Cause, Latch, Outcome, Plan};
+use crate::plan::{Cause, Latch, Outcome, Plan, Site};
 use crate::state::{Activation, Core, Machine};
 use line::{Line, peek, send_text};
 use number::Reading;
@@ -79,24 +79,26 @@ impl Machine {
         }
         let opened_at = (self.core.depth == 0).then_some(self.core.at);
         match self.core.advance(code) {
-            Plan::Read(format, site) => match find(format, peek(line).as_bytes()) {
+            // what `settle` answers too, said here since most steps come to it
+            Plan::Went => Outcome::Went,
+            Plan::Read(format, node, next) => match find(format, peek(line).as_bytes()) {
                 Reading::Wait => {
                     self.core.undo(opened_at);
                     Outcome::Waits
                 }
-                Reading::Refused => self.settle(Plan::Fault(Cause::RefusedText, site.node)),
+                Reading::Refused => self.settle(Plan::Fault(Cause::RefusedText, node)),
                 Reading::Took { value, count } => {
                     let _ = line.take(count);
-                    let plan = self.core.receive(value, site);
+                    let plan = self.core.receive(value, Site { node, next });
                     self.settle(plan)
                 }
             },
-            Plan::Send(format, value, site) => {
+            Plan::Send(format, value, node, next) => {
                 if send_text(line, compose(format, value).as_bytes()) {
-                    let plan = self.core.release(site);
+                    let plan = self.core.release(Site { node, next });
                     self.settle(plan)
                 } else {
-                    self.settle(Plan::Fault(Cause::NoRoom, site.node))
+                    self.settle(Plan::Fault(Cause::NoRoom, node))
                 }
             }
             plan => self.settle(plan),

@@ -50,16 +50,17 @@ pub struct Site {
     pub next: usize,
 }
 
-// What a step comes to as far as no line is needed. A read and a send still have to be performed; they tell where
-// their word stands, and a send its operand. It is no `Result<Plan, Fault>`: so written, with faults handed
-// up by `?`, a step took 1.2 to 2.4 times as long (five rounds of alternating runs, under load).
+// What a step comes to as far as no line is needed. A read and a send still have to be performed; they tell the node and
+// the address behind the word, and a send its operand. These are no `Site`: a plan with one is larger, and a step of a
+// counting loop took a fifth more instructions. It is no `Result<Plan, Fault>`: so written, with faults handed up by `?`, a
+// step took 1.2 to 2.4 times as long (five rounds of alternating runs, under load).
 #[derive(Clone, Copy)]
 pub enum Plan {
     Went,
     Over,
     Fault(Cause, u16),
-    Read(Format, Site),
-    Send(Format, i16, Site),
+    Read(Format, u16, usize),
+    Send(Format, i16, u16, usize),
 }
 
 // How a machine has stopped for good, if it has. It is no `Result`: it is a state that is kept, and nothing goes on from it.

@@ -16,7 +16,7 @@ use Rattle.machine.specs.declared.plan.Plan.TheVariants.{Went, Fault, Read, Send
 use Rattle.machine.specs.declared.plan.Latch.TheVariants.{Open}
 use Rattle.machine.specs.declared.plan.Outcome.TheVariants.{Waits, Failed}
 use Rattle.machine.specs.View.{State as Machine, cause_number}
-use Rattle.machine.specs.States.{site, run}
+use Rattle.machine.specs.States.{run}
 use Rattle.machine.specs.Steps.{world, finished, received, delivered, stepped}
 use Rattle.machine.proofs.Found.{found_inside}
 use Rattle.language.specs.Measures.{format_kind}
@@ -84,7 +84,7 @@ module _ {code : List ℕ} {c : Scene} (m : length c.rows ≡ length c.frames) {
 
     looked : (s : State) (out : List ℕ) → Shape c s → stepped code (world_at a o c s out) ≡ received (machine_at a o c s) (machine_at a o c s) p (a + 1) (finds q s.waiting) s.waiting out s.room
     looked s out S =
-        planned code (top_act o c s) (acts s.callers c.frames) a (ReadAct q) p (machine_at a o c s) (Read q (site p (a + 1))) s.waiting out s.room h (rw (lt-ltb (length s.own + length o) 64 (free s S)) refl)
+        planned code (top_act o c s) (acts s.callers c.frames) a (ReadAct q) p (machine_at a o c s) (Read q p (a + 1)) s.waiting out s.room h (rw (lt-ltb (length s.own + length o) 64 (free s S)) refl)
         ∙ ap (λ (z : Reading). received (machine_at a o c s) (machine_at a o c s) p (a + 1) z s.waiting out s.room) (finds_agrees q s.waiting)
 
     reads_by : (R : Reading) (s : State) (out : List ℕ) → Shape c s → R ≡ finds q s.waiting → ReadOf (numbers_of (format_kind q)) R → Takes R → Sim code j (suc d) (receive p R k s) (world_at a o c s out)
@@ -104,7 +104,7 @@ module _ {code : List ℕ} {c : Scene} (m : length c.rows ≡ length c.frames) {
   module _ {k : Rest} (v : ℤ) (o : List ℤ) (h : At code a (Write q) p) (w : IsOf (format_kind q) v) (K : From code c j d k (a + 1) o) where
     offered : (s : State) (out : List ℕ) → stepped code (world_at a (v ∷ o) c s out) ≡ delivered (machine_at a (v ∷ o) c s) p (a + 1) (text_of q v) s.waiting out s.room
     offered s out =
-        planned code (top_act (v ∷ o) c s) (acts s.callers c.frames) a (Write q) p (machine_at a (v ∷ o) c s) (Send q v (site p (a + 1))) s.waiting out s.room h refl
+        planned code (top_act (v ∷ o) c s) (acts s.callers c.frames) a (Write q) p (machine_at a (v ∷ o) c s) (Send q v p (a + 1)) s.waiting out s.room h refl
         ∙ ap (λ (z : List ℕ). delivered (machine_at a (v ∷ o) c s) p (a + 1) z s.waiting out s.room) (text_agrees q v w)
 
     sends_by : (b : Bool) (s : State) (out : List ℕ) → Shape c s → leb (length (text_of q v)) s.room ≡ b → Sim code j (suc d) (λ n. cond b (sent (text_of q v) ▷ k (narrowed (length (text_of q v)) s) n) (stopped (at_fault no_room p) s)) (world_at a (v ∷ o) c s out)

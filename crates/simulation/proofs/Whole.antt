@@ -4,7 +4,6 @@ use Rattle.std.specs.List.{AllByRecursion}
 use Rattle.number.specs.declared.text.Reading.{Reading}
 use Rattle.number.specs.declared.text.Reading.TheVariants.{Wait, Refused, Took}
 use Rattle.machine.specs.declared.plan.Plan.{Plan}
-use Rattle.machine.specs.declared.plan.Site.{Site}
 use Rattle.machine.specs.declared.plan.Plan.TheVariants.{Went, Over, Fault, Read, Send}
 use Rattle.machine.specs.declared.plan.Latch.TheVariants.{Open}
 use Rattle.machine.specs.declared.plan.Outcome.{Outcome}
@@ -42,17 +41,17 @@ module _ (a b s : Machine) (ws ss : List ℕ) (r : ℕ) (R : World → Report) w
   abbrev of : Machine → World × Outcome → Report
   of m x = reported (world m Open ws ss r) x.0 (R x.0) x.1
 
-  same_read : (at : Site) (q : _) (f : Reading) → looks q ws ≡ f → of a (performed a s (Read q at) ws ss r) ≡ of b (performed b s (Read q at) ws ss r)
-  same_read at q Wait e = rw e refl
-  same_read at q Refused e = rw e refl
-  same_read at q (Took v n) e = rw e refl
+  same_read : (node at : ℕ) (q : _) (f : Reading) → looks q ws ≡ f → of a (performed a s (Read q node at) ws ss r) ≡ of b (performed b s (Read q node at) ws ss r)
+  same_read node at q Wait e = rw e refl
+  same_read node at q Refused e = rw e refl
+  same_read node at q (Took v n) e = rw e refl
 
   same_first : (d : Plan) → of a (performed a s d ws ss r) ≡ of b (performed b s d ws ss r)
   same_first Went = refl
   same_first Over = refl
   same_first (Fault c n) = refl
-  same_first (Read q at) = same_read at q (looks q ws) refl
-  same_first (Send q v at) = refl
+  same_first (Read q node at) = same_read node at q (looks q ws) refl
+  same_first (Send q v node at) = refl
 
 first_report : (code : List ℕ) (x : Act) (xs : List Act) (p : ℕ) (ws ss : List ℕ) (r : ℕ) → advanced code resting ≡ advanced code (state (x ∷ xs) p) → (t : ℕ) → machine_report code t (armed ws ss r) ≡ machine_report code t (world (state (x ∷ xs) p) Open ws ss r)
 unfolding machine_report stepped
