@@ -66,8 +66,12 @@ impl Table<'_> {
     pub fn function(&self, f: usize) -> Option<Function>
         ensures { result ≡ function_of (view self.now) f }
     {
+        // A test by the count, and no `get` of the records: that would divide their bytes by six at each call.
+        if f >= self.functions {
+            return None;
+        }
         let (records, _) = self.bytes[3..3 + 6 * self.functions].as_chunks::<6>();
-        let [first, second, kinds0, kinds1, kinds2, kinds3] = *records.get(f)?;
+        let [first, second, kinds0, kinds1, kinds2, kinds3] = records[f];
         function_from(
             first / 64,
             first / 4 % 16,
@@ -81,8 +85,12 @@ impl Table<'_> {
     pub fn node(&self, at: usize) -> Option<Node>
         ensures { result ≡ node_of (view self.now) at }
     {
+        // a test by the count, as above
+        if at >= self.nodes {
+            return None;
+        }
         let (nodes, _) = self.bytes[3 + 6 * self.functions..].as_chunks::<3>();
-        let [first, high, low] = *nodes.get(at)?;
+        let [first, high, low] = nodes[at];
         Some(Node {
             kind: first / 4,
             aux: first % 4,

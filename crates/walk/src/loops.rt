@@ -45,7 +45,7 @@ impl Loops {
     }
 
     // Opens a loop of that name.
-    pub fn push(&mut self, name: u16)
+    pub(crate) fn push(&mut self, name: u16)
         requires { length (names self.old) < 16 }
         ensures { names self.new ≡ name ∷ names self.old }
     {

@@ -43,7 +43,9 @@ impl Body<'_> {
         self.table.function(usize::from(f))
     }
 
-    // The same for the call at `at`, which is refused if there is no such function.
+    // The same for the call at `at`, which is refused if there is no such function. Inlined, since the walk of a call wants
+    // the record's fields, which are put together for a call of this function and taken apart behind it.
+    #[inline(always)]
     pub(crate) fn called_at(&self, f: u16, at: usize) -> Result<Function, CheckFault>
         ensures { passing signature_of result ≡ called_at (signature_in (seen self.now)) f at }
     {
