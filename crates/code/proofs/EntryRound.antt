@@ -78,7 +78,7 @@ pub entry_by_fields : (w : ℕ) → w < 4294967296 →
 unfolding entry_of
 entry_by_fields w h = let e : w / 4294967296 ≡ 0 = omega arith in rw e refl
 
-abbrev entry : Option Kind → ℕ → Entry
+abbrev pub entry : Option Kind → ℕ → Entry
 entry r w = record { result = r; parameters = w / 67108864 % 16; variables = w / 1048576 % 64; address = w % 65536 }
 
 -- the fields by the bytes of a word of 32 bits

@@ -26,13 +26,13 @@ pub unchanged : {A : Type 0} (o : Option A) → option_map (λ x. x) o ≡ o
 unchanged None = refl
 unchanged (Some x) = refl
 
-variable-at : (f : Function) (slot : ℕ) → slot < f.variables → slice_get (variables_of f) slot ≡ Some (kind_bit f.kinds slot)
+pub variable-at : (f : Function) (slot : ℕ) → slot < f.variables → slice_get (variables_of f) slot ≡ Some (kind_bit f.kinds slot)
 variable-at f slot h =
     let long : slot < length (variables_of f) = omega (arith, length-map-range_with_len (kind_bit f.kinds) 0 f.variables) in
     slice_get-get_or (variables_of f) slot (kind_bit 0 0) long
     ∙ ap Some (get_or-map-range_with_len (kind_bit f.kinds) 0 f.variables slot slot (kind_bit 0 0) h (omega arith))
 
-variable-past : (f : Function) (slot : ℕ) → f.variables ≤ slot → slice_get (variables_of f) slot ≡ None
+pub variable-past : (f : Function) (slot : ℕ) → f.variables ≤ slot → slice_get (variables_of f) slot ≡ None
 variable-past f slot h = slice_get_past (variables_of f) slot (omega (arith, length-map-range_with_len (kind_bit f.kinds) 0 f.variables))
 
 pub variable_in : (f : Function) (slot : ℕ) → then_some (ltb slot f.variables) (kind_bit f.kinds slot) ≡ slice_get (variables_of f) slot
